@@ -1,0 +1,5 @@
+pub mod Tree
+pub mod Limits
+pub mod Seen
+pub mod Code
+pub mod Exact
