@@ -1,0 +1,12 @@
+pub mod Begins
+pub mod Clashes
+pub mod Equal
+pub mod Faults
+pub mod Find
+pub mod Known
+pub mod Labels
+pub mod Lookups
+pub mod Parts
+pub mod Positions
+pub mod Tabled
+pub mod Written
