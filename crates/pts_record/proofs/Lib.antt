@@ -1,0 +1,10 @@
+pub mod Compared
+pub mod Faults
+pub mod Grow
+pub mod Lines
+pub mod Linked
+pub mod Looked
+pub mod Parts
+pub mod Told
+pub mod Trees
+pub mod Values

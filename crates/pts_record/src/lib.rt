@@ -1,0 +1,21 @@
+// Records of derivations: a table of terms and a table of nodes, linked by number.
+// A link leads to an earlier line, a node's terms stand, and every term is within limits.
+// Stands on systems and contexts.
+#![tactic(auto)]
+
+mod compare;
+mod declaration;
+mod links;
+mod measure;
+mod record;
+mod shape;
+mod tree;
+
+pub use declaration::Declaration;
+pub use measure::Measure;
+pub use pts_ctx::{Boxed, Name, Sort, Term};
+pub use record::Record;
+pub use shape::{Extent, Form, Node, RecordFault, Shape};
+
+#[cfg(test)]
+mod tests;

@@ -1,0 +1,305 @@
+// A record: its two tables, and what is kept beside their lines.
+
+ghost use Rattle.std.specs.Prelude.{◌≡◌, ◌<◌, ◌≤◌, ◌++◌, ◌∷◌, [], length, take, slice_get, Some, None, OnOk, OnErr, IfOk, IfErr};
+ghost use Rattle.pts_terms.specs.Tree.{bare, same_term};
+ghost use Rattle.pts_terms.specs.Limits.{depth_of, size_of};
+ghost use Rattle.pts_record.specs.Table.{Tables, bare_trees, bare_at, named_at, named_trees, unfold_shape, no_name, the_name, AllBelow, NodesLinked, shape_links, node_links, term_links, term_fault, node_fault, kept_node, UnlessMemory, measure};
+ghost use Rattle.pts_record.specs.Said.{told, say_as, line_of, scope_of, extent, is_judgement};
+
+use crate::links::{context_fault, kept, part_fault, premise_fault, terms_fault};
+use crate::shape::copy_shapes;
+use crate::{Extent, Form, Measure, Node, RecordFault, Shape};
+use pts_ctx::Term;
+use std::alloc::{AllocError, Global};
+use std::marker::Model;
+
+// How many lines a table may have.
+const LINES: usize = 0x1_0000_0000;
+
+/// A table of terms and a table of nodes. Each link leads to an earlier line, each term of a node stands, and each
+/// term is within limits. Contracts see the two tables.
+#[derive(Drop)]
+pub struct Record {
+    alloc: Global,
+    shapes: Vec<Shape>,
+    measures: Vec<Measure>,
+    nodes: Vec<Node>,
+    extents: Vec<Extent>,
+}
+
+impl Model for Record {
+    ghost use Rattle.pts_record.specs.Table.{Tables};
+    ghost use Rattle.pts_record.specs.Kept.{Kept, tables};
+
+    ghost Value = { Tables };
+
+    ghost view = { λ r. tables r.shapes.items r.nodes.items };
+
+    ghost invariant = { λ r. Kept r.shapes.items r.measures.items r.nodes.items r.extents.items };
+}
+
+impl Record {
+    /// A record without lines.
+    pub fn new(alloc: Global) -> Record
+        ensures { result ≡ record { shapes = []; nodes = [] } }
+    {
+        Record {
+            alloc,
+            shapes: Vec::new(alloc),
+            measures: Vec::new(alloc),
+            nodes: Vec::new(alloc),
+            extents: Vec::new(alloc),
+        }
+    }
+
+    /// The same record.
+    pub fn copy(&self) -> Result<Record, AllocError>
+        ensures { IfOk result (λ r. r ≡ self.now) }
+    {
+        Ok(Record {
+            alloc: self.alloc,
+            shapes: copy_shapes(self.alloc, &self.shapes)?,
+            measures: self.measures.iter().copied().collect(self.alloc)?,
+            nodes: self.nodes.iter().copied().collect(self.alloc)?,
+            extents: self.extents.iter().copied().collect(self.alloc)?,
+        })
+    }
+
+    // Where the tables live.
+    pub(crate) fn alloc(&self) -> Global {
+        self.alloc
+    }
+
+    /// The number of terms, at most 2^32.
+    pub fn terms(&self) -> usize
+        ensures number { result ≡ length self.now.shapes }
+        ensures limit { result ≤ 4294967296 }
+    {
+        self.shapes.len()
+    }
+
+    /// The number of nodes, at most 2^32.
+    pub fn nodes(&self) -> usize
+        ensures number { result ≡ length self.now.nodes }
+        ensures limit { result ≤ 4294967296 }
+    {
+        self.nodes.len()
+    }
+
+    /// The line of a term.
+    pub fn shape(&self, term: usize) -> &Shape
+        requires { term < length self.now.shapes }
+        ensures item { slice_get self.now.shapes term ≡ Some result.now }
+        ensures tree { bare_at self.now.shapes term ≡ unfold_shape no_name (bare_trees self.now.shapes) result.now }
+        ensures named { named_at self.now.shapes term ≡ unfold_shape the_name (named_trees self.now.shapes) result.now }
+        ensures unnamed { bare (named_at self.now.shapes term) ≡ bare_at self.now.shapes term }
+        ensures links { AllBelow term (shape_links result.now) }
+    {
+        &self.shapes[term]
+    }
+
+    /// The depth, the size and the bound of the free indices of a term.
+    pub fn measure(&self, term: usize) -> Measure
+        requires { term < length self.now.shapes }
+        ensures measure { result ≡ measure (bare_at self.now.shapes term) }
+        ensures limits { (result.depth ≤ 2000) × (result.size ≤ 1000000) }
+    {
+        self.measures[term]
+    }
+
+    /// A term is within limits. This is said, and nothing is done.
+    pub fn limits(&self, term: usize)
+        requires { term < length self.now.shapes }
+        ensures { (depth_of (bare_at self.now.shapes term) ≤ 2000) × (size_of (bare_at self.now.shapes term) ≤ 1000000) }
+    {
+        let _measure = self.measure(term);
+    }
+
+    /// The line of a node.
+    pub fn node(&self, number: usize) -> &Node
+        requires { number < length self.now.nodes }
+        ensures item { slice_get self.now.nodes number ≡ Some result.now }
+        ensures says { told self.now number ≡ say_as result.now.form number (line_of (bare_trees self.now.shapes) result.now) (told self.now result.now.ctx) (told self.now result.now.first) }
+        ensures links { AllBelow number (node_links result.now) }
+        ensures terms { AllBelow (length self.now.shapes) (term_links result.now) }
+    {
+        &self.nodes[number]
+    }
+
+    /// How many entries the context has that a node is or speaks of, and whether it is typed.
+    pub fn extent(&self, number: usize) -> Extent
+        requires { number < length self.now.nodes }
+        ensures extent { result ≡ extent (told self.now number) }
+        ensures limit { result.length < 4294967296 }
+    {
+        self.extents[number]
+    }
+
+    /// Adds a term, and answers its number. It costs the same for every term.
+    ///
+    /// # Errors
+    ///
+    /// `Link` comes before `TooLarge`; after each of them the record is as before.
+    pub fn add_term(&mut self, shape: Shape) -> Result<usize, RecordFault>
+        ensures number { IfOk result (λ n. n ≡ length self.old.shapes) }
+        ensures added { OnOk result (self.new ≡ record { shapes = self.old.shapes ++ shape ∷ []; nodes = self.old.nodes }) }
+        ensures fits { OnOk result (term_fault self.old.shapes shape ≡ None) }
+        ensures refused { IfErr result (λ e. UnlessMemory e (term_fault self.old.shapes shape ≡ Some e)) }
+        ensures unchanged { OnErr result (self.new ≡ self.old) }
+    {
+        if let Some(fault) = part_fault(self.terms(), &shape) {
+            return Err(fault);
+        }
+        let measure = self.measure_of(&shape);
+        if measure.depth > 2000 || measure.size > 1_000_000 {
+            return Err(RecordFault::TooLarge);
+        }
+        let number = self.shapes.len();
+        if number >= LINES {
+            return Err(RecordFault::Memory);
+        }
+        self.shapes.reserve(1)?;
+        self.measures.push(measure)?;
+        self.shapes.push(shape)?;
+        Ok(number)
+    }
+
+    /// Adds a node, and answers its number. A field that the form does not use is kept as 0.
+    ///
+    /// # Errors
+    ///
+    /// `Link`; the record is then as before.
+    pub fn add_node(&mut self, node: Node) -> Result<usize, RecordFault>
+        ensures number { IfOk result (λ n. n ≡ length self.old.nodes) }
+        ensures added { OnOk result (self.new ≡ record { shapes = self.old.shapes; nodes = self.old.nodes ++ kept_node node ∷ [] }) }
+        ensures fits { OnOk result (node_fault self.old node ≡ None) }
+        ensures refused { IfErr result (λ e. UnlessMemory e (node_fault self.old node ≡ Some e)) }
+        ensures unchanged { OnErr result (self.new ≡ self.old) }
+    {
+        if let Some(fault) = self.link_fault(&node) {
+            return Err(fault);
+        }
+        let node = kept(node);
+        let extent = self.extent_of(&node);
+        let number = self.nodes.len();
+        if number >= LINES {
+            return Err(RecordFault::Memory);
+        }
+        self.nodes.reserve(1)?;
+        self.extents.push(extent)?;
+        self.nodes.push(node)?;
+        Ok(number)
+    }
+
+    // The nodes name terms that stand. This is said, and nothing is done.
+    pub(crate) fn linked(&self)
+        ensures { NodesLinked (length self.now.shapes) 0 self.now.nodes }
+    {
+        let _ = &self.alloc;
+    }
+
+    // Takes the terms from a number on out again. No node names one of them.
+    pub(crate) fn cut(&mut self, terms: usize)
+        requires terms { terms ≤ length self.old.shapes }
+        requires nodes { NodesLinked terms 0 self.old.nodes }
+        ensures shapes { self.new.shapes ≡ take terms self.old.shapes }
+        ensures nodes { self.new.nodes ≡ self.old.nodes }
+    {
+        self.shapes.truncate(terms);
+        self.measures.truncate(terms);
+    }
+
+    // How large the term of a line is.
+    fn measure_of(&self, shape: &Shape) -> Measure
+        requires { AllBelow (length self.now.shapes) (shape_links shape.now) }
+        ensures { result ≡ measure (unfold_shape no_name (bare_trees self.now.shapes) shape.now) }
+    {
+        match shape {
+            Shape::Sort(_) | Shape::Const(_) => Measure::leaf(0),
+            Shape::Var(index) => Measure::leaf(u64::from(*index) + 1),
+            Shape::App(f, a) => Measure::of_application(self.measure(*f), self.measure(*a)),
+            Shape::Lam(_, t, b) | Shape::Pi(_, t, b) => {
+                Measure::of_binder(self.measure(*t), self.measure(*b))
+            }
+            Shape::Let(_, d, t, b) => {
+                Measure::of_definition(self.measure(*d), self.measure(*t), self.measure(*b))
+            }
+        }
+    }
+
+    // Why a node is not added.
+    #[tactic(auto, unfolding(crate::specs::Table::node_fault))]
+    fn link_fault(&self, node: &Node) -> Option<RecordFault>
+        ensures { result ≡ node_fault self.now node.now }
+    {
+        if let Some(fault) = context_fault(self.nodes(), node) {
+            return Some(fault);
+        }
+        if let Some(fault) = terms_fault(self.terms(), node) {
+            return Some(fault);
+        }
+        premise_fault(self.nodes(), node)
+    }
+
+    /// Whether a node is a judgement.
+    pub fn is_judgement(&self, number: usize) -> bool
+        requires { number < length self.now.nodes }
+        ensures { result ≡ is_judgement (told self.now number) }
+    {
+        match self.node(number).form {
+            Form::Empty | Form::Assume | Form::Define | Form::Bare => false,
+            Form::SortAt
+            | Form::ConstAt
+            | Form::VarAt
+            | Form::Thin
+            | Form::PiAt
+            | Form::LamAt
+            | Form::AppAt
+            | Form::LetSort
+            | Form::LetAt
+            | Form::Conv => true,
+            Form::Same | Form::Left | Form::Right | Form::CongApp | Form::CongLam | Form::CongPi =>
+                false,
+        }
+    }
+
+    // How long the context is that a new node is or speaks of.
+    fn extent_of(&self, node: &Node) -> Extent
+        requires { AllBelow (length self.now.nodes) (node_links node.now) }
+        ensures { result ≡ extent (say_as node.now.form (length self.now.nodes) (line_of (bare_trees self.now.shapes) node.now) (told self.now node.now.ctx) (told self.now node.now.first)) }
+    {
+        match node.form {
+            Form::Empty => Extent {
+                length: 0,
+                typed: true,
+            },
+            Form::Assume | Form::Define => {
+                let before = self.extent(node.first);
+                Extent {
+                    length: before.length + 1,
+                    typed: before.typed && self.is_judgement(node.first),
+                }
+            }
+            Form::Bare => Extent {
+                length: self.extent(node.ctx).length + 1,
+                typed: false,
+            },
+            Form::SortAt
+            | Form::ConstAt
+            | Form::VarAt
+            | Form::Thin
+            | Form::PiAt
+            | Form::LamAt
+            | Form::AppAt
+            | Form::LetSort
+            | Form::LetAt
+            | Form::Conv
+            | Form::Same
+            | Form::Left
+            | Form::Right
+            | Form::CongApp
+            | Form::CongLam
+            | Form::CongPi => self.extent(node.ctx),
+        }
+    }
+}

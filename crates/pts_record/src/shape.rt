@@ -1,0 +1,117 @@
+// The lines of a record's two tables.
+
+ghost use Rattle.std.specs.Prelude.{◌≡◌, IfOk};
+ghost use Rattle.pts_record.specs.declared.shape.RecordFault.TheVariants.{Memory};
+
+use pts_ctx::{Name, Sort};
+use std::alloc::{AllocError, AllocFailed, Global};
+
+/// A line of the table of terms: a term whose parts are earlier lines of the table.
+#[derive(Debug, Drop)]
+pub enum Shape {
+    Sort(Sort),
+    Const(Name),
+    Var(u32),
+    App(usize, usize),
+    Lam(Name, usize, usize),
+    Pi(Name, usize, usize),
+    Let(Name, usize, usize, usize),
+}
+
+impl Shape {
+    /// The same line.
+    pub fn copy(&self, alloc: Global) -> Result<Shape, AllocError>
+        ensures { IfOk result (λ s. s ≡ self.now) }
+    {
+        Ok(match self {
+            Shape::Sort(s) => Shape::Sort(*s),
+            Shape::Const(c) => Shape::Const(c.copy(alloc)?),
+            Shape::Var(i) => Shape::Var(*i),
+            Shape::App(f, a) => Shape::App(*f, *a),
+            Shape::Lam(x, t, b) => Shape::Lam(x.copy(alloc)?, *t, *b),
+            Shape::Pi(x, t, b) => Shape::Pi(x.copy(alloc)?, *t, *b),
+            Shape::Let(x, d, t, b) => Shape::Let(x.copy(alloc)?, *d, *t, *b),
+        })
+    }
+}
+
+pub(crate) fn copy_shapes(alloc: Global, shapes: &[Shape]) -> Result<Vec<Shape>, AllocError>
+    ensures { IfOk result (λ copy. copy.items ≡ shapes.now) }
+{
+    let mut copy = Vec::new(alloc);
+    for shape in shapes {
+        copy.push(shape.copy(alloc)?)?;
+    }
+    Ok(copy)
+}
+
+/// The form of a node: four contexts, ten judgements, six comparisons.
+#[derive(Clone, Copy, Debug, PartialEq, Eq)]
+pub enum Form {
+    Empty,
+    Assume,
+    Define,
+    Bare,
+    SortAt,
+    ConstAt,
+    VarAt,
+    Thin,
+    PiAt,
+    LamAt,
+    AppAt,
+    LetSort,
+    LetAt,
+    Conv,
+    Same,
+    Left,
+    Right,
+    CongApp,
+    CongLam,
+    CongPi,
+}
+
+/// A line of the table of nodes, with the numbers of earlier nodes and of terms. A field that the form does not use is 0.
+#[derive(Clone, Copy, Debug, PartialEq, Eq)]
+pub struct Node {
+    pub form: Form,
+    pub ctx: usize,
+    pub subject: usize,
+    pub claim: usize,
+    pub first: usize,
+    pub second: usize,
+    pub third: usize,
+}
+
+/// What is kept of a context: how many entries it has, and whether none of them is bare.
+#[derive(Clone, Copy, Debug, PartialEq, Eq)]
+pub struct Extent {
+    pub length: usize,
+    pub typed: bool,
+}
+
+/// Why a line is not added to a table.
+#[derive(Debug, Drop)]
+pub enum RecordFault {
+    /// The field with this number, from 0 on in the order of the certificate's line, leads to no earlier line.
+    Link(usize),
+    /// The term is not within limits.
+    TooLarge,
+    /// There is no memory, or a table has 2^32 lines.
+    Memory,
+}
+
+impl From<AllocError> for RecordFault {
+    ghost from_gives = { λ _ e. e ≡ Memory };
+
+    fn from(_: AllocError) -> Self {
+        RecordFault::Memory
+    }
+}
+
+impl<T: Drop> From<AllocFailed<T>> for RecordFault {
+    ghost from_gives = { λ _ e. e ≡ Memory };
+
+    fn from(_: AllocFailed<T>) -> Self {
+        RecordFault::Memory
+    }
+}
