@@ -1,0 +1,13 @@
+pub mod Moved
+pub mod Thinning
+pub mod Scoped
+pub mod HeadStep
+pub mod Conversion
+pub mod Weakening
+pub mod Prefix
+pub mod Passing
+pub mod Linked
+pub mod Rows
+pub mod Sound
+pub mod ThinRecord
+pub mod Worked

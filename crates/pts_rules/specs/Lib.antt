@@ -1,0 +1,7 @@
+pub mod Step
+pub mod Derives
+pub mod WellFormed
+pub mod Parts
+pub mod Conditions
+pub mod Valid
+pub mod Laws

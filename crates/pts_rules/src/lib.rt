@@ -1,0 +1,15 @@
+// The rules: steps and convertibility, derivability and legality, the table of forms, and valid records.
+// Its laws say that what a valid record over a legal front says is derivable.
+// Stands on records, contexts and terms.
+#![tactic(auto)]
+
+mod laws;
+mod why;
+
+pub use laws::{
+    conclusions_are_legal, head_steps_are_steps, judgements_are_scoped, judgements_are_thinned,
+    longer_fronts_have_entries, prefixes_are_legal, valid_records_are_sound,
+    valid_records_are_thinned,
+};
+pub use pts_record::{Boxed, Form, Measure, Name, Node, Shape, Sort, Term};
+pub use why::Why;

@@ -1,0 +1,29 @@
+// Why a node is no instance of its form.
+
+/// The first condition of a form that a node breaks. A number counts the links of the node's line: its context is 0,
+/// its premises are 1 to 3; in a line that has no context its one link is 0.
+#[derive(Clone, Copy, Debug, PartialEq, Eq)]
+pub enum Why {
+    /// The link is not of the needed kind.
+    Kind(u8),
+    /// The premise does not stand in the needed context.
+    Place(u8),
+    /// The first term is not the one that the premises give.
+    Subject,
+    /// The second term is not the one that the premises give.
+    Claim,
+    /// What the premise says does not fit the others.
+    Premise(u8),
+    /// The premise's claim is not a sort.
+    SortOf(u8),
+    /// The sort has no axiom.
+    NoAxiom,
+    /// The two sorts have no rule.
+    NoRule,
+    /// The name or the index has no entry.
+    NoEntry,
+    /// The term has no such head step.
+    NoStep,
+    /// The record is valid, and its last node does not conclude its declaration.
+    Conclusion,
+}
