@@ -1,0 +1,19 @@
+use Rattle.std.proofs.Common.{◌≡◌, ◌+◌, ◌-◌, ◌≤◌, length}
+use Rattle.std.specs.Io.KnownBytes.{prepend_known}
+use Rattle.pts_io.specs.Counts.{raised}
+use Rattle.pts_io.specs.Lines.{NoFeed}
+use Rattle.pts_io.proofs.lines.LineReader.read_line.Given as goal
+
+abbrev pub invariant-turns : goal.invariant-turns
+invariant-turns g l =
+    (l.self.taken ≤ l.self.limit)
+    × NoFeed l.self.held
+    × (g.S.Source.faults l.source ≡ g.S.Source.faults l.initial.source)
+    × (l.self.limit ≡ l.initial.self.limit)
+    × (l.initial.self.taken ≤ l.self.taken)
+    × (g.S.Source.given l.source ≡ raised (g.S.Source.given l.initial.source) (l.self.taken - l.initial.self.taken))
+    × (prepend_known l.self.held (g.S.Source.left l.source) ≡ prepend_known l.initial.self.held (g.S.Source.left l.initial.source))
+    × (length l.self.held + l.initial.self.taken ≡ length l.initial.self.held + l.self.taken)
+
+abbrev pub decreases-turns : goal.decreases-turns
+decreases-turns g l = l.self.limit - l.self.taken

@@ -1,0 +1,5 @@
+pub mod Counts
+pub mod Calls
+pub mod Fakes
+pub mod Files
+pub mod Lines

@@ -1,0 +1,70 @@
+ghost use Rattle.std.specs.Prelude.{None, IfOk};
+ghost use Rattle.pts_io.specs.Files.{IsWithin};
+
+use crate::faults::{ReadFail, ReadFault};
+use crate::libraries::{FILE_LIMIT, Found, Library};
+use crate::standard::StdSource;
+use crate::whole::read_whole;
+use std::alloc::Global;
+use std::fs;
+use std::io::ErrorKind;
+use std::rt::Files;
+
+/// The files of the current folder as a library. It tells nothing of them.
+#[derive(Drop)]
+pub struct FolderLibrary<R> {
+    rt: R,
+    faults: u64,
+    missing: u64,
+    too_long: u64,
+}
+
+impl<R> FolderLibrary<R> {
+    /// The library of this runtime's files. A name is a path from the current folder.
+    pub fn new(rt: R) -> FolderLibrary<R> {
+        FolderLibrary {
+            rt,
+            faults: 0,
+            missing: 0,
+            too_long: 0,
+        }
+    }
+}
+
+impl<R: Files> Library for FolderLibrary<R> {
+    ghost faults = { λ s. s.faults };
+
+    ghost missing = { λ s. s.missing };
+
+    ghost too_long = { λ s. s.too_long };
+
+    ghost files = { λ _. None };
+
+    /// A file that can't be opened for another cause than that it isn't there is a failure.
+    fn read(&mut self, alloc: Global, name: &str) -> Result<Found, ReadFail> {
+        let answer = read_file(&self.rt, alloc, name);
+        match &answer {
+            Ok(Found::Bytes(_)) | Err(ReadFail::Memory) => {}
+            Ok(Found::NoFile) => self.missing = self.missing.saturating_add(1),
+            Ok(Found::TooLong) => self.too_long = self.too_long.saturating_add(1),
+            Err(ReadFail::Failed) => self.faults = self.faults.saturating_add(1),
+        }
+        answer
+    }
+}
+
+fn read_file<R: Files>(rt: &R, alloc: Global, name: &str) -> Result<Found, ReadFail>
+    ensures { IfOk result IsWithin }
+{
+    let file = match fs::open(rt, name) {
+        Ok(file) => file,
+        Err(error) if error.kind() == ErrorKind::NotFound => return Ok(Found::NoFile),
+        Err(_) => return Err(ReadFail::Failed),
+    };
+    match read_whole(alloc, &mut StdSource::new(file), FILE_LIMIT) {
+        Ok(bytes) => Ok(Found::Bytes(bytes)),
+        Err(ReadFault::TooMuch) => Ok(Found::TooLong),
+        Err(ReadFault::Failed) => Err(ReadFail::Failed),
+        Err(ReadFault::Memory) => Err(ReadFail::Memory),
+    }
+}

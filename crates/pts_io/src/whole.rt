@@ -1,0 +1,90 @@
+ghost use Rattle.std.specs.Prelude.{◌≡◌, ◌≢◌, ℕ, ◌+◌, ◌<◌, ◌≤◌, length, take, drop, vec_len, Err, IfOk, OnOk, OnErr, IfSome};
+ghost use Rattle.std.specs.Option.{option_map};
+ghost use Rattle.std.specs.Io.KnownBytes.{prepend_known, append_known, IsAtEnd};
+ghost use Rattle.pts_io.specs.Counts.{raised, Rose};
+
+use crate::faults::{Fail, ReadFault};
+use crate::sinks::Sink;
+use crate::sources::Source;
+use std::alloc::{AllocError, Global};
+
+// How many bytes are asked for in one call, at most.
+pub(crate) const PIECE: usize = 65536;
+
+/// Takes all that the source has, if that is at most `limit` bytes.
+///
+/// # Errors
+///
+/// `Failed` only where the source's count of faults rose, `TooMuch` exactly where byte `limit` + 1
+/// was taken, and `Memory`. No byte behind that one is taken.
+pub fn read_whole<S: Source>(
+    alloc: Global,
+    source: &mut S,
+    limit: usize,
+) -> Result<Vec<u8>, ReadFault>
+    ensures never_falls { S.faults source.old ≤ S.faults source.new }
+    ensures moved { result ≢ Err ReadFault.TooMuch → (n : ℕ) × (n ≤ limit)
+        × (S.given source.new ≡ raised (S.given source.old) n)
+        × (S.left source.new ≡ option_map (λ all. drop n all) (S.left source.old)) }
+
+    ensures faults { OnOk result (S.faults source.new ≡ S.faults source.old) }
+    ensures within { IfOk result (λ bytes. vec_len bytes ≤ limit) }
+    ensures given { IfOk result (λ bytes. S.given source.new ≡ raised (S.given source.old) (vec_len bytes)) }
+    ensures read { IfOk result (λ bytes. IfSome (S.left source.old) (λ all. bytes.items ≡ all)) }
+    ensures end { OnOk result (IsAtEnd (S.left source.new)) }
+
+    ensures too_much_faults { result ≡ Err ReadFault.TooMuch → S.faults source.new ≡ S.faults source.old }
+    ensures too_much_given { result ≡ Err ReadFault.TooMuch → S.given source.new ≡ raised (S.given source.old) (limit + 1) }
+    ensures too_much_taken { result ≡ Err ReadFault.TooMuch → S.left source.new ≡ option_map (λ all. drop (limit + 1) all) (S.left source.old) }
+    ensures too_much_left { result ≡ Err ReadFault.TooMuch → IfSome (S.left source.old) (λ all. limit < length all) }
+    ensures failed { result ≡ Err ReadFault.Failed → Rose (S.faults source.old) (S.faults source.new) }
+{
+    let mut storage = piece_buffer(alloc).map_err(|_| ReadFault::Memory)?;
+    let buffer = storage.as_mut_slice();
+    let mut bytes = Vec::new(alloc);
+    'turns: loop {
+        let room = limit - bytes.len();
+        let wanted = room.min(PIECE - 1) + 1;
+        let Ok(count) = source.take(&mut buffer[..wanted]) else {
+            return Err(ReadFault::Failed);
+        };
+        if count == 0 {
+            return Ok(bytes);
+        }
+        if count > room {
+            return Err(ReadFault::TooMuch);
+        }
+        let Ok(()) = bytes.extend_from_slice(&buffer[..count]) else {
+            return Err(ReadFault::Memory);
+        };
+    }
+}
+
+fn piece_buffer(alloc: Global) -> Result<Vec<u8>, AllocError>
+    ensures { IfOk result (λ buffer. vec_len buffer ≡ PIECE) }
+{
+    vec![in alloc; 0; PIECE]
+}
+
+/// Puts all of these bytes.
+///
+/// # Errors
+///
+/// `Failed` only where the sink's count of faults rose; then a first part of the bytes was written.
+pub fn write_whole<K: Sink>(sink: &mut K, bytes: &[u8]) -> Result<(), Fail>
+    ensures never_falls { K.faults sink.old ≤ K.faults sink.new }
+    ensures faults { OnOk result (K.faults sink.new ≡ K.faults sink.old) }
+    ensures written { OnOk result (K.written sink.new ≡ append_known (K.written sink.old) bytes.now) }
+    ensures failed { OnErr result (Rose (K.faults sink.old) (K.faults sink.new)) }
+    ensures part { OnErr result ((n : ℕ) × (n ≤ length bytes.now) × (K.written sink.new ≡ append_known (K.written sink.old) (take n bytes.now))) }
+{
+    let mut done = 0;
+    while done < bytes.len() {
+        let count = sink.put(&bytes[done..])?;
+        if count == 0 {
+            return Err(Fail::Failed);
+        }
+        done += count;
+    }
+    Ok(())
+}
