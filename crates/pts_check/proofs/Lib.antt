@@ -1,0 +1,5 @@
+pub mod Passed
+pub mod Found
+pub mod Stepped
+pub mod Faulted
+pub mod Limited

@@ -1,0 +1,3 @@
+pub mod Stated
+pub mod Verdicts
+pub mod Entered
