@@ -1,0 +1,61 @@
+-- Numbers are read digit by digit, and field by field.
+use Rattle.std.proofs.Common.{◌≡◌, ℕ, suc, ◌<◌, ◌≤◌, ◌+◌, ◌-◌, ◌*◌, ◌==◌, ◌&&◌, ◌||◌, not, Bool, true, false, if◌then◌else◌, List, [], ◌∷◌, ◌++◌, length, map, sym, ◌∙◌, ap, arith, append_assoc, append-nil, length-append, get_or, drop, drop-cons, nat_lt, ◌^◌}
+use Rattle.std.specs.Prelude.{Result, Ok, Err}
+use Rattle.std.specs.List.{list_all}
+use Rattle.pts_certificate.specs.declared.fault.Refusal.{Refusal}
+use Rattle.pts_certificate.specs.declared.fault.Refusal.TheVariants.{BadLine, BadNumber}
+use Rattle.pts_certificate.specs.Text.{is_digits, is_number, is_padded, value, value_behind, numbers}
+
+pub value_grows : (n : ℕ) (digits : List ℕ) → n ≤ value_behind n digits
+value_grows n [] = omega arith
+value_grows n (c ∷ cs) = omega (arith, value_grows (n * 10 + (c - 48)) cs)
+
+not_small : (digits : List ℕ) (n : ℕ) → 2 ^ 32 ≤ n → (not (is_padded digits) && nat_lt n (2 ^ 32)) ≡ false
+not_small digits n great = grind arith
+
+-- Where the digits so far write a number that is too great, so do all.
+pub too_great : (digits : List ℕ) (i n : ℕ) → i < length digits → value_behind n (drop i digits) ≡ value digits → 2 ^ 32 ≤ n * 10 + (get_or digits i 0 - 48) → is_number digits ≡ false
+too_great digits i n below same great =
+    let front : drop i digits ≡ get_or digits i 0 ∷ drop (suc i) digits = drop-cons digits i 0 below in
+    let whole : value_behind (n * 10 + (get_or digits i 0 - 48)) (drop (suc i) digits) ≡ value digits = sym (ap (value_behind n) front) ∙ same in
+    let grows : n * 10 + (get_or digits i 0 - 48) ≤ value_behind (n * 10 + (get_or digits i 0 - 48)) (drop (suc i) digits) = value_grows (n * 10 + (get_or digits i 0 - 48)) (drop (suc i) digits) in
+    let all : 2 ^ 32 ≤ value digits = omega (arith, whole, grows) in
+    not_small digits (value digits) all
+
+-- What is known of the tests and of the number that a word writes plays no part.
+module _ (digits fits : List ℕ → Bool) (worth : List ℕ → ℕ) where
+  -- The numbers of the fields behind those that were found, where `fit` says whether all of those are numbers.
+  abbrev pub behind : List ℕ → Bool → ℕ → List (List ℕ) → Result (List ℕ) Refusal
+  behind found fit count [] = if not (length found == count) then Err BadLine else if not fit then Err BadNumber else Ok found
+  behind found fit count (word ∷ rest) =
+      if (length found == count) || not (digits word) then Err BadLine
+      else behind (found ++ (if fits word then worth word else 0) ∷ []) (fit && fits word) count rest
+
+  -- The same in one step.
+  abbrev at_once : List ℕ → Bool → ℕ → List (List ℕ) → Result (List ℕ) Refusal
+  at_once found fit count rest =
+      if not ((length found + length rest == count) && list_all digits rest) then Err BadLine
+      else if fit && list_all fits rest then Ok (found ++ map worth rest)
+      else Err BadNumber
+
+  one_more : (found : List ℕ) (fit : Bool) (count : ℕ) (word : List ℕ) (rest : List (List ℕ)) → digits word ≡ true →
+      at_once (found ++ (if fits word then worth word else 0) ∷ []) (fit && fits word) count rest ≡ at_once found fit count (word ∷ rest)
+  one_more found fit count word rest good =
+      let sum : length (found ++ (if fits word then worth word else 0) ∷ []) + length rest ≡ length found + length (word ∷ rest) = omega (arith, length-append found ((if fits word then worth word else 0) ∷ [])) in
+      let order : (found ++ worth word ∷ []) ++ map worth rest ≡ found ++ worth word ∷ map worth rest = append_assoc found (worth word ∷ []) (map worth rest) in
+      grind (arith, sum, order, good)
+
+  full : (found : List ℕ) (fit : Bool) (count : ℕ) (word : List ℕ) (rest : List (List ℕ)) → length found ≡ count → at_once found fit count (word ∷ rest) ≡ Err BadLine
+  full found fit count word rest same = let more : (length found + length (word ∷ rest) == count) ≡ false = grind (arith, same) in grind (arith, more)
+
+  bad : (found : List ℕ) (fit : Bool) (count : ℕ) (word : List ℕ) (rest : List (List ℕ)) → digits word ≡ false → at_once found fit count (word ∷ rest) ≡ Err BadLine
+  bad found fit count word rest wrong = grind (arith, wrong)
+
+  one_by_one : (found : List ℕ) (fit : Bool) (count : ℕ) (rest : List (List ℕ)) → behind found fit count rest ≡ at_once found fit count rest
+  one_by_one found fit count [] = let none : length found + 0 ≡ length found = omega arith in grind (arith, none, append-nil found)
+  one_by_one found fit count (word ∷ rest) =
+      grind (arith, full found fit count word rest, bad found fit count word rest, one_more found fit count word rest, one_by_one (found ++ (if fits word then worth word else 0) ∷ []) (fit && fits word) count rest)
+
+pub all_behind : (count : ℕ) (fields : List (List ℕ)) → behind is_digits is_number value [] true count fields ≡ numbers count fields
+unfolding numbers
+all_behind count fields = let none : 0 + length fields ≡ length fields = omega arith in one_by_one is_digits is_number value [] true count fields ∙ ap (λ n. if not ((n == count) && list_all is_digits fields) then Err BadLine else if list_all is_number fields then Ok (map value fields) else Err BadNumber) none

@@ -1,0 +1,5 @@
+pub mod Text
+pub mod Rows
+pub mod Certificate
+pub mod Calls
+pub mod Seen

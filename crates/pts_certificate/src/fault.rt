@@ -1,0 +1,56 @@
+ghost use Rattle.std.specs.Prelude.{◌≡◌};
+
+use pts_ctx::SystemFault;
+use std::alloc::{AllocError, AllocFailed};
+
+/// Why a text is no certificate. Lines are counted from 1.
+#[derive(Debug, Drop)]
+pub enum CertificateFault {
+    /// The line has no form that may stand in its place.
+    BadLine(usize),
+    /// A number of the line has a leading zero, is 2^32 or more, or leads to no earlier line.
+    BadNumber(usize),
+    /// The term of the line is not within limits.
+    TooLarge(usize),
+    /// The text ends before a line `end`.
+    Truncated,
+    /// The lists of sorts, axioms and rules are no system.
+    System(SystemFault),
+    /// There was no memory for the certificate.
+    Memory,
+}
+
+/// Why a line is refused.
+#[derive(Debug, Drop)]
+pub(crate) enum Refusal {
+    /// It has no form that may stand in its place.
+    BadLine,
+    /// A number has a leading zero, is 2^32 or more, or leads to no earlier line.
+    BadNumber,
+    /// Its term is not within limits.
+    TooLarge,
+    /// It stands behind lists that are no system.
+    System(SystemFault),
+    /// There was no memory for it.
+    Memory,
+}
+
+impl From<AllocError> for Refusal {
+    ghost use Rattle.pts_certificate.specs.declared.fault.Refusal.{Refusal};
+
+    ghost from_gives = { λ _ refusal. refusal ≡ Refusal.Memory };
+
+    fn from(_: AllocError) -> Refusal {
+        Refusal::Memory
+    }
+}
+
+impl<T: Drop> From<AllocFailed<T>> for Refusal {
+    ghost use Rattle.pts_certificate.specs.declared.fault.Refusal.{Refusal};
+
+    ghost from_gives = { λ _ refusal. refusal ≡ Refusal.Memory };
+
+    fn from(_: AllocFailed<T>) -> Refusal {
+        Refusal::Memory
+    }
+}

@@ -1,0 +1,123 @@
+ghost use Rattle.std.specs.Prelude.{◌≡◌, ◌∷◌, [], ◌<◌, length, take, drop, Some, None, MatchOption, MatchResult};
+ghost use Rattle.pts_names.specs.Name.{same_name};
+ghost use Rattle.pts_certificate.specs.Text.{pieces, lines, words, without_return};
+ghost use Rattle.pts_certificate.specs.Rows.{alone};
+
+use crate::fault::Refusal;
+use std::marker::Model;
+
+/// The words of a line that are not yet taken. Contracts see their list.
+#[derive(Drop)]
+pub(crate) struct Words<'a> {
+    rest: Option<&'a [u8]>,
+}
+
+impl<'a> Model for Words<'a> {
+    ghost use Rattle.std.specs.Prelude.{List, ℕ};
+    ghost use Rattle.std.specs.Coded.{coded_list, coded_ℕ};
+    ghost use Rattle.pts_certificate.specs.Calls.{words_of};
+
+    ghost Value = { List (List ℕ) };
+
+    ghost coded = { coded_list (coded_list coded_ℕ) };
+
+    ghost view = { λ w. words_of w.rest };
+}
+
+impl<'a> Words<'a> {
+    /// The words of a line.
+    pub(crate) fn of(line: &'a [u8]) -> Words<'a>
+        ensures { result ≡ words line.now }
+    {
+        Words { rest: Some(line) }
+    }
+
+    /// The next word, which is taken.
+    pub(crate) fn next(&mut self) -> Option<&'a [u8]>
+        ensures { MatchOption result (self.old ≡ []) (λ word. self.old ≡ word.now ∷ self.new) }
+    {
+        let text = self.rest?;
+        match split_at(text, b' ') {
+            Some((word, rest)) => {
+                self.rest = Some(rest);
+                Some(word)
+            }
+            None => {
+                self.rest = None;
+                Some(text)
+            }
+        }
+    }
+
+    /// The next word, where there must be one.
+    ///
+    /// # Errors
+    ///
+    /// `BadLine`.
+    pub(crate) fn field(&mut self) -> Result<&'a [u8], Refusal>
+        ensures { MatchResult result (λ word. self.old ≡ word.now ∷ self.new) (λ e. (e ≡ Refusal.BadLine) × (self.old ≡ [])) }
+    {
+        match self.next() {
+            Some(word) => Ok(word),
+            None => Err(Refusal::BadLine),
+        }
+    }
+
+    /// That no word is left.
+    ///
+    /// # Errors
+    ///
+    /// `BadLine`.
+    pub(crate) fn end(mut self) -> Result<(), Refusal>
+        ensures { result ≡ alone self.entry tt }
+    {
+        match self.next() {
+            Some(_) => Err(Refusal::BadLine),
+            None => Ok(()),
+        }
+    }
+}
+
+/// What stands before and behind the first of these bytes.
+fn split_at(text: &[u8], byte: u8) -> Option<(&[u8], &[u8])>
+    ensures pieces { MatchOption result (pieces byte text.now ≡ text.now ∷ []) (λ parts. pieces byte text.now ≡ parts.0.now ∷ pieces byte parts.1.now) }
+    ensures less { MatchOption result (Unit {0}) (λ parts. length parts.1.now < length text.now) }
+{
+    for (place, found) in text.iter().enumerate() {
+        if *found == byte {
+            return Some((&text[..place], &text[place + 1..]));
+        }
+    }
+    None
+}
+
+/// The first line of a text, and the text behind it.
+#[tactic(auto, using(crate::proofs::Pieces::lines_more))]
+pub(crate) fn split_line(text: &[u8]) -> Option<(&[u8], &[u8])>
+    ensures line { MatchOption result (lines text.now ≡ []) (λ parts. lines text.now ≡ parts.0.now ∷ lines parts.1.now) }
+    ensures less { MatchOption result (Unit {0}) (λ parts. length parts.1.now < length text.now) }
+{
+    match split_at(text, b'\n') {
+        Some((line, rest)) => Some((trimmed(line), rest)),
+        None if is(text, "end") => Some((text, &text[text.len()..])),
+        None => None,
+    }
+}
+
+/// The line without the carriage return at its end, where it has one.
+fn trimmed(line: &[u8]) -> &[u8]
+    ensures { result.now ≡ without_return line.now }
+{
+    match line {
+        [front @ .., b'\r'] => front,
+        _ => line,
+    }
+}
+
+/// Whether the bytes are those of the text.
+#[tactic(auto, using(crate::proofs::Pieces::same_bytes))]
+pub(crate) fn is(bytes: &[u8], text: &str) -> bool
+    ensures { result ≡ same_name bytes.now text.now }
+{
+    bytes == text.as_bytes()
+}

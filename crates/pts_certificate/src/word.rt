@@ -1,0 +1,69 @@
+ghost use Rattle.std.specs.Prelude.{◌≡◌, true, false, MatchOption};
+ghost use Rattle.std.specs.Str.{is_utf8};
+ghost use Rattle.pts_certificate.specs.Calls.{Answers};
+ghost use Rattle.pts_certificate.specs.Rows.{word_where, is_name, is_binder, is_spelling};
+ghost use Rattle.pts_certificate.specs.Rows as format;
+
+use crate::fault::Refusal;
+use crate::split::Words;
+use pts_ctx::Name;
+use pts_names::{NameFault, SortName, SortNameFault};
+use std::alloc::Global;
+
+/// The spelling of a sort that a word is.
+pub(crate) fn spelling_of(alloc: Global, word: &[u8]) -> Result<SortName, Refusal>
+    ensures { Answers result (word_where is_spelling word.now) }
+{
+    let Some(text) = text_of(word) else {
+        return Err(Refusal::BadLine);
+    };
+    match SortName::read(alloc, text) {
+        Ok(spelling) => Ok(spelling),
+        Err(SortNameFault::BadSpelling) => Err(Refusal::BadLine),
+        Err(SortNameFault::Memory) => Err(Refusal::Memory),
+    }
+}
+
+/// The name that a word is.
+pub(crate) fn name_of(alloc: Global, word: &[u8]) -> Result<Name, Refusal>
+    ensures { Answers result (word_where is_name word.now) }
+{
+    let Some(text) = text_of(word) else {
+        return Err(Refusal::BadLine);
+    };
+    match Name::read(alloc, text) {
+        Ok(name) => Ok(name),
+        Err(NameFault::Memory) => Err(Refusal::Memory),
+        Err(_) => Err(Refusal::BadLine),
+    }
+}
+
+/// The name of one part that a word is.
+pub(crate) fn binder_of(alloc: Global, word: &[u8]) -> Result<Name, Refusal>
+    ensures { Answers result (word_where is_binder word.now) }
+{
+    let name = name_of(alloc, word)?;
+    if name.parts() != 1 {
+        return Err(Refusal::BadLine);
+    }
+    Ok(name)
+}
+
+/// The name that is the only field of a line.
+pub(crate) fn name_row(alloc: Global, mut fields: Words) -> Result<Name, Refusal>
+    ensures { Answers result (format.name_row fields.entry) }
+{
+    let word = fields.field()?;
+    fields.end()?;
+    name_of(alloc, word)
+}
+
+/// The text that a word is, where it is UTF-8.
+fn text_of(word: &[u8]) -> Option<&str>
+    ensures { MatchOption result (is_utf8 word.now ≡ false) (λ text. (is_utf8 word.now ≡ true) × (text.now ≡ word.now)) }
+{
+    match str::from_utf8(word) {
+        Ok(text) => Some(text),
+        Err(_) => None,
+    }
+}
