@@ -1,0 +1,4 @@
+pub mod Enter
+pub mod Words
+pub mod Answers
+pub mod Runs

@@ -1,0 +1,32 @@
+// The program: `check` reads a certificate from standard input and checks it.
+// It writes what the definition of the answer says, and the context that it hands back is legal.
+// Stands on the checker, the reader of certificates and the outside.
+#![tactic(auto)]
+
+mod answer;
+mod enter;
+mod run;
+#[cfg(test)]
+mod tests;
+mod words;
+
+use crate::run::run;
+use pts_io::{StdSink, StdSource};
+use std::env;
+use std::process::ExitCode;
+
+/// Runs with the words behind the program's own name. Words that are not UTF-8 are of no form.
+fn main(rt: HostRuntime) -> ExitCode {
+    let alloc = rt.alloc();
+    let words = match env::args(&rt) {
+        Ok(words) => words.skip(1).collect(alloc),
+        Err(_) => Ok(Vec::new(alloc)),
+    };
+    let Ok(words) = words else {
+        return ExitCode::from(7);
+    };
+    let mut source = StdSource::new(rt.stdin());
+    let mut sink = StdSink::new(rt.stdout());
+    let finish = run(alloc, words.as_slice(), &mut source, &mut sink);
+    ExitCode::from(finish.status)
+}
