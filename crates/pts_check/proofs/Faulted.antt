@@ -1,10 +1,9 @@
 -- The first fault of a record, node by node.
-use Rattle.std.proofs.Common.{◌≡◌, ℕ, zero, suc, ◌+◌, ◌<◌, ◌≤◌, List, [], ◌∷◌, ◌++◌, length, get_or, take, drop, pred, false, Option, Some, None, refl, sym, ap, ◌∙◌, arith}
+use Rattle.std.proofs.Common.{◌≡◌, ℕ, zero, suc, ◌<◌, ◌≤◌, List, [], ◌∷◌, ◌++◌, length, get_or, take, drop, pred, false, Option, Some, None, refl, sym, ap, ◌∙◌, arith}
 use Rattle.std.specs.Prelude.{slice_get}
 use Rattle.std.proofs.lemmas.Option.{slice_get-get_or}
 use Rattle.std.proofs.Common.{drop-cons}
 use Rattle.std.proofs.Math.Seq.{take-suc}
-use Rattle.pts_terms.specs.Tree.{Bare, sort}
 use Rattle.pts_ctx.specs.System.{Specification}
 use Rattle.pts_ctx.specs.Front.{Front, Global}
 use Rattle.pts_record.specs.declared.shape.Form.{Form}
@@ -18,7 +17,6 @@ use Rattle.pts_rules.specs.declared.why.Why.{Why}
 use Rattle.pts_rules.specs.Conditions.{Plain, Link, form_fault}
 use Rattle.pts_rules.specs.Valid.{fault, or_later, first_fault_behind, first_fault, concludes, concludes_as}
 use Rattle.pts_record.proofs.Looked.{look_past, said_length}
-use Rattle.pts_check.specs.declared.verdict.Verdict.{Verdict}
 use Rattle.pts_check.specs.declared.verdict.Verdict.TheVariants.{Valid, Faulty}
 use Rattle.pts_check.specs.Verdicts.{verdict_of}
 

@@ -1,18 +1,12 @@
 -- Look-ups in fronts and contexts.
-use Rattle.std.proofs.Common.{◌≡◌, ℕ, zero, suc, List, [], ◌∷◌, length, Bool, nat_lt, Option, Some, None, refl, arith}
+use Rattle.std.proofs.Common.{◌≡◌, ℕ, zero, suc, [], ◌∷◌, length, nat_lt, refl, arith}
 use Rattle.std.specs.Prelude.{is_some}
 use Rattle.std.specs.Option.{option_map}
 use Rattle.std.proofs.lemmas.Bool.Decides.{nat_tests}
-use Rattle.pts_names.specs.Name.{Name}
 use Rattle.pts_terms.specs.Tree.{Bare, let_in}
-use Rattle.pts_ctx.specs.Front.{Global, find, bare_global, bare_front, Local, assumed, defined, unknown, Locals, entry_at}
+use Rattle.pts_ctx.specs.Front.{assumed, defined, unknown, Locals, entry_at}
 use Rattle.pts_rules.specs.Parts.{let_with}
 use Rattle.pts_check.specs.Stated.{newest_definition}
-
-pub find_bare : {B : Type 0} (x : Name) (G : List (Global B)) → find x (bare_front G) ≡ option_map bare_global (find x G)
-unfolding find
-find_bare x [] = refl
-find_bare x (e ∷ G) = grind (arith, find_bare x G)
 
 pub entry_there : (L : Locals) (i : ℕ) → is_some (entry_at L i) ≡ nat_lt i (length L)
 entry_there [] i = grind (arith, nat_tests)

@@ -1,13 +1,11 @@
 -- Terms that are equal apart from printed names are within limits together.
-use Rattle.std.proofs.Common.{◌≡◌, ℕ, suc, ◌+◌, ◌≤◌, refl, sym, ap, ◌∙◌, subst, arith, max, Bool, true, nat_le, Option, Some, None}
+use Rattle.std.proofs.Common.{◌≡◌, ℕ, ◌+◌, ◌≤◌, refl, ap, ◌∙◌, arith, max, Bool, true, nat_le}
 use Rattle.std.specs.Prelude.{◌&&◌}
-use Rattle.std.specs.Option.{option_map}
 use Rattle.std.proofs.lemmas.Bool.Decides.{nat_tests}
 use mathlib.Core.Path.{ap₂}
-use Rattle.pts_terms.specs.Tree.{Tree, Named, Bare, sort, const, var, app, named_lam, named_pi, named_let, bare, same_term}
+use Rattle.pts_terms.specs.Tree.{Named, Bare, sort, const, var, app, named_lam, named_pi, named_let, bare, same_term}
 use Rattle.pts_terms.specs.Limits.{depth_of, size_of, within}
 use Rattle.pts_terms.proofs.Same.{same_term_eq}
-use Rattle.pts_ctx.specs.Seen.{body_within}
 
 depth_bare : (t : Named) → depth_of (bare t) ≡ depth_of t
 depth_bare (sort s) = refl

@@ -1,6 +1,5 @@
 -- What a declaration adds to a front.
 use Rattle.std.specs.Option.{option_map}
-use Rattle.pts_terms.specs.Tree.{Named, bare}
 use Rattle.pts_terms.specs.Seen.{named}
 use Rattle.pts_names.specs.Name.{Name}
 use Rattle.pts_ctx.specs.Front.{Global, bare_global}

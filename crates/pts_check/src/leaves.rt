@@ -58,7 +58,7 @@ pub(crate) fn const_fault(front: &Context, proof: &Record, node: &Node) -> Optio
 }
 
 // Whether the name stands in the front with that type.
-#[tactic(auto, using(crate::proofs::Found::find_bare))]
+#[tactic(auto, using(pts_rules::proofs::HeadBare::find_bare))]
 fn entry_fault(front: &Context, proof: &Record, name: &Name, claim: usize) -> Option<Why>
     requires { claim < length proof.now.shapes }
     ensures { result ≡ first_failing ((is_some (find name.now (bare_front front.now.entries)), no_entry) ∷ (is_that (bare_at proof.now.shapes claim) (option_map (λ e. e.type) (find name.now (bare_front front.now.entries))), claim_fault) ∷ []) }

@@ -55,7 +55,7 @@ pub(crate) fn steps_to(
 }
 
 // Whether a term is the body of a name.
-#[tactic(auto, using(crate::proofs::Found::find_bare))]
+#[tactic(auto, using(pts_rules::proofs::HeadBare::find_bare))]
 fn is_body(front: &Context, proof: &Record, name: &Name, target: usize) -> bool
     requires { target < length proof.now.shapes }
     ensures { result ≡ is_that (bare_at proof.now.shapes target) (body_of (find name.now (bare_front front.now.entries))) }

@@ -1,7 +1,7 @@
 -- Tables that grow by a line are kept in order.
 use Rattle.std.proofs.Common.{◌≡◌, ℕ, zero, suc, ◌+◌, ◌<◌, List, [], ◌∷◌, ◌++◌, length, map, refl, sym, ap, ◌∙◌, subst, arith, length-append, true, All}
 use Rattle.std.proofs.lemmas.List.{map-append, get_or_append_left, get_or_push}
-use Rattle.pts_terms.specs.Tree.{Bare}
+use Rattle.pts_terms.specs.Tree.{Tree, Bare}
 use Rattle.pts_terms.specs.Limits.{within}
 use Rattle.pts_record.specs.declared.shape.Form.{Form}
 use Rattle.pts_record.specs.declared.shape.Form.TheVariants.{Empty, Assume, Define, Bare as BareForm, SortAt, ConstAt, VarAt, Thin, PiAt, LamAt, AppAt, LetSort, LetAt, Conv, Same, Left, Right, CongApp, CongLam, CongPi}
@@ -25,7 +25,7 @@ pub kept_new : (ss : List Shape) (ms : List Measure) (ns : List Node) (es : List
 kept_new ss ms ns es a b c d = rw (a, b, c, d) kept_empty
 
 -- a line does not change where its terms do not
-line_same : (ts us : List Bare) (f : Form) (t u n : ℕ) (c p q w : ℕ) → AllBelow n (terms_as f t u) → ((k : ℕ) → k < n → at ts k ≡ at us k) → line_of ts (record { form = f; ctx = c; subject = t; claim = u; first = p; second = q; third = w }) ≡ line_of us (record { form = f; ctx = c; subject = t; claim = u; first = p; second = q; third = w })
+line_same : {B : Type 0} (ts us : List (Tree B)) (f : Form) (t u n : ℕ) (c p q w : ℕ) → AllBelow n (terms_as f t u) → ((k : ℕ) → k < n → at ts k ≡ at us k) → line_of ts (record { form = f; ctx = c; subject = t; claim = u; first = p; second = q; third = w }) ≡ line_of us (record { form = f; ctx = c; subject = t; claim = u; first = p; second = q; third = w })
 line_same ts us Empty t u n c p q w b e = refl
 line_same ts us Assume t u n c p q w b e = refl
 line_same ts us Define t u n c p q w b e = refl
@@ -47,7 +47,7 @@ line_same ts us CongApp t u n c p q w b e = let x = e t b.0 in let y = e u b.1.0
 line_same ts us CongLam t u n c p q w b e = let x = e t b.0 in let y = e u b.1.0 in cc
 line_same ts us CongPi t u n c p q w b e = let x = e t b.0 in let y = e u b.1.0 in cc
 
-pub lines_same : (ts us : List Bare) (ns : List Node) (n k : ℕ) → NodesLinked n k ns → ((i : ℕ) → i < n → at ts i ≡ at us i) → map (line_of ts) ns ≡ map (line_of us) ns
+pub lines_same : {B : Type 0} (ts us : List (Tree B)) (ns : List Node) (n k : ℕ) → NodesLinked n k ns → ((i : ℕ) → i < n → at ts i ≡ at us i) → map (line_of ts) ns ≡ map (line_of us) ns
 lines_same ts us [] n k b e = refl
 lines_same ts us (m ∷ ns) n k b e =
     let here : line_of ts m ≡ line_of us m = line_same ts us m.form m.subject m.claim n m.ctx m.first m.second m.third b.0.1 e in

@@ -4,6 +4,7 @@ pub mod Grow
 pub mod Lines
 pub mod Linked
 pub mod Looked
+pub mod Named
 pub mod Parts
 pub mod Told
 pub mod Trees

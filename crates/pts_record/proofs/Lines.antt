@@ -9,11 +9,11 @@ use Rattle.pts_record.specs.declared.measure.Measure.{Measure}
 use Rattle.pts_record.specs.declared.shape.Node.{Node}
 use Rattle.pts_record.specs.declared.shape.Extent.{Extent}
 use Rattle.pts_record.specs.Table.{Tables, bare_trees, bare_at, named_trees, named_at, AllBelow, shape_links, node_links, term_links, measure, unfold_shape, no_name, the_name}
-use Rattle.pts_record.specs.Said.{nothing, look, say, lines_of, said_behind, told, extent, say_as, line_of}
+use Rattle.pts_record.specs.Said.{nothing, look, say, lines_of, said_behind, told, named_told, extent, say_as, line_of}
 use Rattle.pts_record.specs.Kept.{Kept, tables}
 use Rattle.pts_record.proofs.Linked.{shape_linked, node_linked, below_more}
 use Rattle.pts_record.proofs.Trees.{bare_here, named_here, bare_long}
-use Rattle.pts_record.proofs.Told.{told_here, lines_long}
+use Rattle.pts_record.proofs.Told.{told_here, named_told_here, lines_long}
 use Rattle.pts_record.proofs.Values.{values_long}
 use Rattle.pts_record.proofs.Faults.{within_bounds}
 use Rattle.pts_terms.specs.Limits.{within, depth_of, size_of}
@@ -67,6 +67,14 @@ module _ (ss : List Shape) (ms : List Measure) (ns : List Node) (es : List Exten
       let at_k : get_or r.nodes k n ≡ get_or ns k n = ap (λ xs. get_or xs k n) (sym same) in
       let item : slice_get r.nodes k ≡ Some n = g ∙ ap Some (at_k ∙ sym e) in
       told_here r k n h item (node_links_are kept v k n h e)
+
+  pub node_says_named : Kept ss ms ns es → tables ss ns ≡ r → (k : ℕ) (n : Node) → k < length r.nodes → n ≡ get_or ns k n → named_told r k ≡ say_as n.form k (line_of (named_trees r.shapes) n) (named_told r n.ctx) (named_told r n.first)
+  node_says_named kept v k n h e =
+      let same : ns ≡ r.nodes = ap (λ t. t.nodes) v in
+      let g = slice_get-get_or r.nodes k n h in
+      let at_k : get_or r.nodes k n ≡ get_or ns k n = ap (λ xs. get_or xs k n) (sym same) in
+      let item : slice_get r.nodes k ≡ Some n = g ∙ ap Some (at_k ∙ sym e) in
+      named_told_here r k n h item (node_links_are kept v k n h e)
 
   pub measures_long : Kept ss ms ns es → tables ss ns ≡ r → length ms ≡ length r.shapes
   measures_long kept v =

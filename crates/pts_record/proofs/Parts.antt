@@ -4,8 +4,8 @@ use Rattle.std.proofs.Math.Seq.{take-append_seam}
 use Rattle.std.proofs.lemmas.List.{length-take-le, take_all, get_or-take, get_or_push}
 use Rattle.std.proofs.lemmas.List.Elements.{All-take}
 use Rattle.pts_names.specs.Name.{Name}
-use Rattle.pts_terms.specs.Tree.{Tree, Named, sort, const, var, app, named_lam, named_pi, named_let, bare}
-use Rattle.pts_terms.specs.Limits.{depth_of, size_of, within}
+use Rattle.pts_terms.specs.Tree.{Named, sort, app, named_lam, named_pi, named_let, bare}
+use Rattle.pts_terms.specs.Limits.{within}
 use Rattle.std.specs.Prelude.{IfOk, IfErr, OnOk, Result, Ok, Err}
 use mathlib.Core.Path.{ap₂}
 use Rattle.pts_terms.specs.declared.term.Term.{Term}

@@ -2,12 +2,12 @@
 use Rattle.std.proofs.Common.{◌≡◌, ℕ, zero, suc, ◌+◌, ◌<◌, ◌≤◌, List, [], ◌∷◌, ◌++◌, length, get_or, take, map, refl, ap, ◌∙◌, arith, length-take}
 use Rattle.std.specs.Prelude.{slice_get, Some}
 use Rattle.std.proofs.lemmas.Option.{slice_get-get_or}
-use Rattle.pts_terms.specs.Tree.{Bare}
+use Rattle.pts_terms.specs.Tree.{Tree}
 use Rattle.pts_record.specs.declared.shape.Form.{Form}
 use Rattle.pts_record.specs.declared.shape.Form.TheVariants.{Empty, Assume, Define, Bare as BareForm, SortAt, ConstAt, VarAt, Thin, PiAt, LamAt, AppAt, LetSort, LetAt, Conv, Same, Left, Right, CongApp, CongLam, CongPi}
 use Rattle.pts_record.specs.declared.shape.Node.{Node}
-use Rattle.pts_record.specs.Table.{Tables, bare_trees, AllBelow, contexts_as, premises_as, node_links}
-use Rattle.pts_record.specs.Said.{Line, line_of, lines_of, Said, nothing, look, say_as, say, said_behind, told}
+use Rattle.pts_record.specs.Table.{Tables, bare_trees, named_trees, AllBelow, contexts_as, premises_as, node_links}
+use Rattle.pts_record.specs.Said.{Line, line_of, lines_of, Said, nothing, look, say_as, say, said_behind, told, named_told}
 use Rattle.pts_record.proofs.Values.{values_long, values_here, values_take}
 
 abbrev pub Plain : Type 0
@@ -17,7 +17,7 @@ abbrev pub Link : Type 0
 Link = Said (Unit {0})
 
 -- only the links that a form uses count
-pub say_by_links : (f : Form) (k : ℕ) (l : Plain) (c p d q : Link) (n x y z w : ℕ) → AllBelow n (contexts_as f x ++ premises_as f y z w) → (x < n → c ≡ d) → (y < n → p ≡ q) → say_as f k l c p ≡ say_as f k l d q
+pub say_by_links : {B : Type 0} (f : Form) (k : ℕ) (l : Line B) (c p d q : Said B) (n x y z w : ℕ) → AllBelow n (contexts_as f x ++ premises_as f y z w) → (x < n → c ≡ d) → (y < n → p ≡ q) → say_as f k l c p ≡ say_as f k l d q
 say_by_links Empty k l c p d q n x y z w b e g = refl
 say_by_links Assume k l c p d q n x y z w b e g = let h = g b.0 in cc
 say_by_links Define k l c p d q n x y z w b e g = let h = g b.0 in cc
@@ -39,11 +39,11 @@ say_by_links CongApp k l c p d q n x y z w b e g = let h = e b.0 in cc
 say_by_links CongLam k l c p d q n x y z w b e g = let h = e b.0 in cc
 say_by_links CongPi k l c p d q n x y z w b e g = let h = e b.0 in cc
 
-lines_length : (ts : List Bare) (ns : List Node) → length (map (line_of ts) ns) ≡ length ns
+lines_length : {B : Type 0} (ts : List (Tree B)) (ns : List Node) → length (map (line_of ts) ns) ≡ length ns
 lines_length ts [] = refl
 lines_length ts (n ∷ ns) = ap suc (lines_length ts ns)
 
-line_at : (ts : List Bare) (ns : List Node) (k : ℕ) (d : Node) → get_or (map (line_of ts) ns) k (line_of ts d) ≡ line_of ts (get_or ns k d)
+line_at : {B : Type 0} (ts : List (Tree B)) (ns : List Node) (k : ℕ) (d : Node) → get_or (map (line_of ts) ns) k (line_of ts d) ≡ line_of ts (get_or ns k d)
 line_at ts [] k d = refl
 line_at ts (n ∷ ns) zero d = refl
 line_at ts (n ∷ ns) (suc k) d = line_at ts ns k d
@@ -62,25 +62,33 @@ told_take r i k h le = values_take say (lines_of r) [] i k nothing (omega (arith
 pub length_before : (r : Tables) (i : ℕ) → i ≤ length (lines_of r) → length (said_behind [] (take i (lines_of r))) ≡ i
 length_before r i le = values_long say (take i (lines_of r)) [] ∙ omega (arith, length-take i (lines_of r))
 
--- what a node says, where its links are smaller
-told_is : (r : Tables) (k : ℕ) (n : Node) → k < length r.nodes → get_or r.nodes k n ≡ n → AllBelow k (node_links n) → told r k ≡ say_as n.form k (line_of (bare_trees r.shapes) n) (told r n.ctx) (told r n.first)
-unfolding told
-told_is r k n h e b =
-    let ts = bare_trees r.shapes in
-    let ls = lines_of r in
-    let hl : k < length ls = omega (arith, h, lines_long r) in
+-- what a line says among others, where its links are smaller
+said_is : {B : Type 0} (ts : List (Tree B)) (ns : List Node) (k : ℕ) (n : Node) → k < length ns → get_or ns k n ≡ n → AllBelow k (node_links n) → look (said_behind [] (map (line_of ts) ns)) k ≡ say_as n.form k (line_of ts n) (look (said_behind [] (map (line_of ts) ns)) n.ctx) (look (said_behind [] (map (line_of ts) ns)) n.first)
+said_is ts ns k n h e b =
+    let ls = map (line_of ts) ns in
+    let hl : k < length ls = omega (arith, h, lines_length ts ns) in
     let le : k ≤ length ls = omega (arith, hl) in
     let before = said_behind [] (take k ls) in
     let here : look (said_behind [] ls) (0 + k) ≡ say before (get_or ls k (line_of ts n)) = values_here say ls [] k (line_of ts n) nothing hl in
     let z : k ≡ 0 + k = omega arith in
-    let line : get_or ls k (line_of ts n) ≡ line_of ts n = line_is r k n ∙ ap (line_of ts) e in
-    let long : length before ≡ k = length_before r k le in
+    let line : get_or ls k (line_of ts n) ≡ line_of ts n = line_at ts ns k n ∙ ap (line_of ts) e in
+    let long : length before ≡ k = values_long say (take k ls) [] ∙ omega (arith, length-take k ls, le) in
+    let early : (i : ℕ) → i < k → look before i ≡ look (said_behind [] ls) i = λ i lt. values_take say ls [] k i nothing (omega (arith, lt)) le in
     ap (look (said_behind [] ls)) z ∙ here ∙ ap (say before) line
     ∙ ap (λ i. say_as n.form i (line_of ts n) (look before n.ctx) (look before n.first)) long
-    ∙ say_by_links n.form k (line_of ts n) _ _ _ _ k n.ctx n.first n.second n.third b (λ lt. told_take r k n.ctx lt le) (λ lt. told_take r k n.first lt le)
+    ∙ say_by_links n.form k (line_of ts n) _ _ _ _ k n.ctx n.first n.second n.third b (early n.ctx) (early n.first)
 
+-- what a node says
 pub told_here : (r : Tables) (k : ℕ) (n : Node) → k < length r.nodes → slice_get r.nodes k ≡ Some n → AllBelow k (node_links n) → told r k ≡ say_as n.form k (line_of (bare_trees r.shapes) n) (told r n.ctx) (told r n.first)
+unfolding told
 told_here r k n h e b =
     let g = slice_get-get_or r.nodes k n h in
     let same : get_or r.nodes k n ≡ n = cc in
-    told_is r k n h same b
+    said_is (bare_trees r.shapes) r.nodes k n h same b
+
+pub named_told_here : (r : Tables) (k : ℕ) (n : Node) → k < length r.nodes → slice_get r.nodes k ≡ Some n → AllBelow k (node_links n) → named_told r k ≡ say_as n.form k (line_of (named_trees r.shapes) n) (named_told r n.ctx) (named_told r n.first)
+unfolding named_told
+named_told_here r k n h e b =
+    let g = slice_get-get_or r.nodes k n h in
+    let same : get_or r.nodes k n ≡ n = cc in
+    said_is (named_trees r.shapes) r.nodes k n h same b

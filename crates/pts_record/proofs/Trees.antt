@@ -48,7 +48,7 @@ named_here ss k s h e b =
     unfold_here the_name ss k s h same b
 
 -- a tree without its printed names is the one that the table without them unfolds to
-at_bare : (ts : List Named) (k : ℕ) → at (map bare ts) k ≡ bare (at ts k)
+pub at_bare : (ts : List Named) (k : ℕ) → at (map bare ts) k ≡ bare (at ts k)
 at_bare [] k = refl
 at_bare (t ∷ ts) zero = refl
 at_bare (t ∷ ts) (suc k) = at_bare ts k

@@ -1,8 +1,9 @@
 -- What each node of a record says: a local context, a judgement or a comparison.
 use Rattle.std.specs.Prelude.{ℕ, List, [], ◌∷◌, length, slice_index_or, map, Bool, true, false, if◌then◌else◌}
-use Rattle.pts_terms.specs.Tree.{Tree, sort}
+use Rattle.pts_names.specs.Name.{Name}
+use Rattle.pts_terms.specs.Tree.{Tree, sort, bare}
 use Rattle.pts_ctx.specs.Front.{Local, assumed, defined, unknown}
-use Rattle.pts_record.specs.Table.{Tables, at, bare_trees, values_behind}
+use Rattle.pts_record.specs.Table.{Tables, at, bare_trees, named_trees, values_behind}
 use Rattle.pts_record.specs.declared.shape.Form.{Form}
 use Rattle.pts_record.specs.declared.shape.Form.TheVariants.{Empty, Assume, Define, Bare as BareForm, Same, Left, Right, CongApp, CongLam, CongPi}
 use Rattle.pts_record.specs.declared.shape.Node.{Node}
@@ -143,6 +144,28 @@ lines_of r = map (line_of (bare_trees r.shapes)) r.nodes
 -- What the node with number k says, without printed names.
 unfoldable pub told : Tables → ℕ → Said (Unit {0})
 told r k = look (said_behind [] (lines_of r)) k
+
+-- The same with printed names.
+abbrev pub named_lines_of : Tables → List (Line Name)
+named_lines_of r = map (line_of (named_trees r.shapes)) r.nodes
+
+unfoldable pub named_told : Tables → ℕ → Said Name
+named_told r k = look (said_behind [] (named_lines_of r)) k
+
+-- An entry, a context and what is said, without printed names.
+abbrev pub bare_local : {B : Type 0} → Local B → Local (Unit {0})
+bare_local (assumed A) = assumed (bare A)
+bare_local (defined a A) = defined (bare a) (bare A)
+bare_local unknown = unknown
+
+abbrev pub bare_scope : {B : Type 0} → Scope B → Scope (Unit {0})
+bare_scope s = record { made = s.made; entries = map bare_local s.entries; trail = s.trail }
+
+abbrev pub bare_said : {B : Type 0} → Said B → Said (Unit {0})
+bare_said nothing = nothing
+bare_said (context s) = context (bare_scope s)
+bare_said (judgement c s t T) = judgement c (bare_scope s) (bare t) (bare T)
+bare_said (comparison c s t u) = comparison c (bare_scope s) (bare t) (bare u)
 
 -- What is kept of the context that a node is or speaks of: how many entries it has, and whether it is typed.
 abbrev pub extent : {B : Type 0} → Said B → Extent

@@ -4,7 +4,7 @@ ghost use Rattle.std.specs.Prelude.{◌≡◌, ◌<◌, ◌≤◌, ◌++◌, ◌
 ghost use Rattle.pts_terms.specs.Tree.{bare, same_term};
 ghost use Rattle.pts_terms.specs.Limits.{depth_of, size_of};
 ghost use Rattle.pts_record.specs.Table.{Tables, bare_trees, bare_at, named_at, named_trees, unfold_shape, no_name, the_name, AllBelow, NodesLinked, shape_links, node_links, term_links, term_fault, node_fault, kept_node, UnlessMemory, measure};
-ghost use Rattle.pts_record.specs.Said.{told, say_as, line_of, scope_of, extent, is_judgement};
+ghost use Rattle.pts_record.specs.Said.{told, named_told, say_as, line_of, scope_of, extent, is_judgement};
 
 use crate::links::{context_fault, kept, part_fault, premise_fault, terms_fault};
 use crate::shape::copy_shapes;
@@ -65,8 +65,8 @@ impl Record {
         })
     }
 
-    // Where the tables live.
-    pub(crate) fn alloc(&self) -> Global {
+    /// Where the tables live.
+    pub fn alloc(&self) -> Global {
         self.alloc
     }
 
@@ -120,6 +120,7 @@ impl Record {
         requires { number < length self.now.nodes }
         ensures item { slice_get self.now.nodes number ≡ Some result.now }
         ensures says { told self.now number ≡ say_as result.now.form number (line_of (bare_trees self.now.shapes) result.now) (told self.now result.now.ctx) (told self.now result.now.first) }
+        ensures named { named_told self.now number ≡ say_as result.now.form number (line_of (named_trees self.now.shapes) result.now) (named_told self.now result.now.ctx) (named_told self.now result.now.first) }
         ensures links { AllBelow number (node_links result.now) }
         ensures terms { AllBelow (length self.now.shapes) (term_links result.now) }
     {
@@ -191,8 +192,8 @@ impl Record {
         Ok(number)
     }
 
-    // The nodes name terms that stand. This is said, and nothing is done.
-    pub(crate) fn linked(&self)
+    /// Each node is linked to earlier nodes and names terms that stand. This is said, and nothing is done.
+    pub fn linked(&self)
         ensures { NodesLinked (length self.now.shapes) 0 self.now.nodes }
     {
         let _ = &self.alloc;

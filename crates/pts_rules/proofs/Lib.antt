@@ -1,6 +1,7 @@
 pub mod Moved
 pub mod Thinning
 pub mod Scoped
+pub mod HeadBare
 pub mod HeadStep
 pub mod Conversion
 pub mod Weakening

@@ -1,7 +1,7 @@
 -- The table of forms: the conditions of each, in order, with their faults.
-use Rattle.std.specs.Prelude.{ℕ, suc, List, [], ◌∷◌, Bool, true, false, ◌&&◌, Option, Some, None, is_some, nat_lt, length, if◌then◌else◌}
+use Rattle.std.specs.Prelude.{ℕ, suc, List, [], ◌∷◌, Bool, ◌&&◌, Option, Some, None, is_some, if◌then◌else◌}
 use Rattle.std.specs.Option.{option_map, option_and_then}
-use Rattle.pts_terms.specs.Tree.{Bare, sort, app, lam, pi, lift, subst, same_term}
+use Rattle.pts_terms.specs.Tree.{sort, app, lam, pi, lift, subst, same_term}
 use Rattle.pts_ctx.specs.System.{Specification, axiom_of, rule_of}
 use Rattle.pts_ctx.specs.Front.{Front, find, entry_at}
 use Rattle.pts_record.specs.declared.shape.Form.{Form}

@@ -5,3 +5,4 @@ pub mod Parts
 pub mod Conditions
 pub mod Valid
 pub mod Laws
+pub mod Meter

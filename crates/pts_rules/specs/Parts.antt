@@ -1,9 +1,9 @@
 -- What a term is, and what is said of a node: the tests and the parts that conditions speak of.
-use Rattle.std.specs.Prelude.{ℕ, List, [], ◌∷◌, Bool, true, false, ◌&&◌, Option, Some, None, nat_eq, position}
+use Rattle.std.specs.Prelude.{ℕ, List, ◌∷◌, Bool, false, ◌&&◌, Option, Some, None, nat_eq, position}
 use Rattle.std.specs.Option.{option_map}
-use Rattle.pts_terms.specs.Tree.{Bare, sort, const, var, app, named_lam, named_pi, named_let, same_term, let_in}
+use Rattle.pts_terms.specs.Tree.{Bare, sort, const, var, named_pi, same_term, let_in}
 use Rattle.pts_ctx.specs.Front.{Local, assumed, defined, unknown, Locals}
-use Rattle.pts_record.specs.Said.{Made, by_empty, by_assume, by_define, by_bare, Scope, Said, nothing, context, judgement, comparison, scope_of, place_of, all_known, is_context}
+use Rattle.pts_record.specs.Said.{Made, by_assume, by_define, by_bare, Said, scope_of, place_of, all_known, is_context}
 
 -- The sort, the constant's name, the index, or the parts of the product that a term is.
 abbrev pub sort_in : Bare → Option ℕ

@@ -1,6 +1,5 @@
 -- Contractions, steps at any place, convertibility, and the head step.
-use Rattle.std.specs.Prelude.{ℕ, suc, List, [], ◌∷◌, ◌≡◌, Option, Some, None}
-use Rattle.std.specs.Option.{option_map}
+use Rattle.std.specs.Prelude.{ℕ, suc, List, ◌∷◌, ◌≡◌, Option, Some, None}
 use Rattle.pts_names.specs.Name.{Name}
 use Rattle.pts_terms.specs.Tree.{Tree, Bare, sort, const, var, app, named_lam, named_pi, named_let, lam, pi, let_in, lift, subst}
 use Rattle.pts_ctx.specs.Front.{Global, open_body, Front, find, Local, assumed, defined, unknown, Locals, entry_at}

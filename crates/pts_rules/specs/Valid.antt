@@ -1,11 +1,10 @@
 -- The first fault of a record, valid records, and what a record concludes.
 use Rattle.std.specs.Prelude.{◌≡◌, ℕ, pred, List, [], ◌∷◌, ◌++◌, length, Bool, true, false, ◌&&◌, Option, Some, None, is_some}
-use Rattle.std.specs.Option.{option_map}
 use Rattle.pts_terms.specs.Tree.{Bare, same_term}
 use Rattle.pts_ctx.specs.System.{Specification}
-use Rattle.pts_ctx.specs.Front.{Global, Front, Local, Locals}
+use Rattle.pts_ctx.specs.Front.{Global, Front, Locals}
 use Rattle.pts_record.specs.Table.{Tables}
-use Rattle.pts_record.specs.Said.{Line, Said, judgement, look, say, lines_of, told}
+use Rattle.pts_record.specs.Said.{judgement, look, say, lines_of, told}
 use Rattle.pts_rules.specs.declared.why.Why.{Why}
 use Rattle.pts_rules.specs.Parts.{sort_in}
 use Rattle.pts_rules.specs.Conditions.{Plain, Link, form_fault}

@@ -1,9 +1,10 @@
-// The rules: steps and convertibility, derivability and legality, the table of forms, and valid records.
+// The rules: steps and convertibility, derivability and legality, the table of forms, valid records, and meters.
 // Its laws say that what a valid record over a legal front says is derivable.
 // Stands on records, contexts and terms.
 #![tactic(auto)]
 
 mod laws;
+mod meter;
 mod why;
 
 pub use laws::{
@@ -11,5 +12,6 @@ pub use laws::{
     longer_fronts_have_entries, prefixes_are_legal, valid_records_are_sound,
     valid_records_are_thinned,
 };
+pub use meter::Meter;
 pub use pts_record::{Boxed, Form, Measure, Name, Node, Shape, Sort, Term};
 pub use why::Why;
