@@ -1,0 +1,3 @@
+pub mod Shapes
+pub mod SpecFile
+pub mod Calls

@@ -1,0 +1,58 @@
+ghost use Rattle.std.specs.Prelude.{◌≡◌};
+
+use pts_ctx::SystemFault;
+use pts_names::Text;
+use std::alloc::{AllocError, AllocFailed};
+
+/// Why bytes are no specification of a system, in the order in which it is asked.
+#[derive(Debug, Drop)]
+pub enum SpecFault {
+    /// The bytes aren't UTF-8, or the text is no document of TOML.
+    NotToml,
+    /// This key is the first of `sorts`, `axioms` and `rules` that is missing or holds something else than it should;
+    /// or these three are right, and it is the least other key of the document.
+    Shape(Text),
+    /// The lists that are written are no system. The fault is never want of memory.
+    System(SystemFault),
+    /// There was no memory for the system.
+    Memory,
+}
+
+impl From<AllocError> for SpecFault {
+    ghost use Rattle.pts_spec.specs.declared.fault.SpecFault.{SpecFault};
+
+    ghost from_gives = { λ _ fault. fault ≡ SpecFault.Memory };
+
+    fn from(_error: AllocError) -> SpecFault {
+        SpecFault::Memory
+    }
+}
+
+/// Why a value of a document is not read.
+#[derive(Debug, Drop)]
+pub(crate) enum Misfit {
+    /// It has another shape than is asked for.
+    Shape,
+    /// There was no memory for what is read.
+    Memory,
+}
+
+impl From<AllocError> for Misfit {
+    ghost use Rattle.pts_spec.specs.declared.fault.Misfit.{Misfit};
+
+    ghost from_gives = { λ _ misfit. misfit ≡ Misfit.Memory };
+
+    fn from(_error: AllocError) -> Misfit {
+        Misfit::Memory
+    }
+}
+
+impl<T: Drop> From<AllocFailed<T>> for Misfit {
+    ghost use Rattle.pts_spec.specs.declared.fault.Misfit.{Misfit};
+
+    ghost from_gives = { λ _ misfit. misfit ≡ Misfit.Memory };
+
+    fn from(_error: AllocFailed<T>) -> Misfit {
+        Misfit::Memory
+    }
+}
