@@ -1,0 +1,11 @@
+pub mod Underscore
+pub mod Stacks
+pub mod Ends
+pub mod Carried
+pub mod Complete
+pub mod Sound
+pub mod Reach
+pub mod Refusals
+pub mod TooDeep
+pub mod Answer
+pub mod Determined

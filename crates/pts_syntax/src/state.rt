@@ -1,0 +1,39 @@
+use crate::frame::{Binder, Frame};
+use crate::kind::Kind;
+use crate::part::Part;
+use pts_names::Name;
+
+/// Where the reading is, beside the constructs that are open.
+#[derive(Debug, Drop)]
+pub(crate) enum State {
+    /// Before a term.
+    Begin,
+    /// Before the name that a binder binds, and behind it.
+    Binder(Binder),
+    BinderSign(Binder, Name),
+    /// The same for a local definition.
+    LetName,
+    LetSign(Name),
+    /// Behind an application that may go on.
+    After(Part),
+}
+
+/// What a token does.
+#[derive(Debug, Drop)]
+pub(crate) enum Move {
+    /// The reading goes on.
+    Go(State),
+    /// The token stands behind this whole term, and nothing is open.
+    Stay(Part),
+    /// Another kind of token must stand here.
+    Fail(Kind),
+    /// One parenthesis is open too many.
+    Deep,
+}
+
+/// A whole part: in a term that ends with it, or in a construct that needs a token behind it.
+#[derive(Debug, Drop)]
+pub(crate) enum Around {
+    Wider(Part),
+    Bracket(Frame, Part),
+}
