@@ -1,0 +1,6 @@
+pub mod Steps
+pub mod Tests
+pub mod Reached
+pub mod Exact
+pub mod Converts
+pub mod Worked

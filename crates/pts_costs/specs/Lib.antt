@@ -1,0 +1,4 @@
+pub mod Costs
+pub mod Run
+pub mod Work
+pub mod Laws
