@@ -1,0 +1,4 @@
+pub mod Grow
+pub mod Limits
+pub mod Lifted
+pub mod Instances

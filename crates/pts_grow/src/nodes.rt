@@ -1,0 +1,34 @@
+// Nodes that are added to a record.
+
+ghost use Rattle.std.specs.Prelude.{◌≡◌, length, IfOk, None};
+ghost use Rattle.pts_ctx.specs.System.{Specification};
+ghost use Rattle.pts_ctx.specs.Front.{Front};
+ghost use Rattle.pts_record.specs.Table.{named_trees, bare_trees, AllBelow, node_links, term_links, kept_node};
+ghost use Rattle.pts_record.specs.Said.{named_told, told, say_as, line_of};
+ghost use Rattle.pts_rules.specs.Conditions.{form_fault};
+ghost use Rattle.pts_rules.specs.Valid.{IsValid};
+ghost use Rattle.pts_grow.specs.Keeps.{Keeps, IsNode};
+
+use pts_record::{Node, Record};
+use std::alloc::AllocError;
+
+/// Adds a node whose links stand. The record stays valid where the node is an instance of its form.
+///
+/// # Errors
+///
+/// Only want of memory.
+#[tactic(auto, using(crate::proofs::Grow::pushed))]
+pub fn push(proof: &mut Record, node: Node) -> Result<usize, AllocError>
+    requires links { AllBelow (length proof.old.nodes) (node_links node) }
+    requires terms { AllBelow (length proof.old.shapes) (term_links node) }
+    requires kept { kept_node node ≡ node }
+    ensures says { IfOk result (λ n. IsNode proof.new n (say_as node.form n (line_of (named_trees proof.old.shapes) node) (named_told proof.old node.ctx) (named_told proof.old node.first))) }
+    ensures shapes { proof.new.shapes ≡ proof.old.shapes }
+    ensures keeps { Keeps proof.old proof.new }
+    ensures valid { (S : Specification) (G : Front) → form_fault S G node.form (line_of (bare_trees proof.old.shapes) node) (told proof.old node.ctx) (told proof.old node.first) (told proof.old node.second) (told proof.old node.third) ≡ None → IsValid S G proof.old → IsValid S G proof.new }
+{
+    match proof.add_node(node) {
+        Ok(number) => Ok(number),
+        Err(_) => Err(AllocError),
+    }
+}
