@@ -1,0 +1,5 @@
+pub mod Paid
+pub mod Stepping
+pub mod Faults
+pub mod Converting
+pub mod Walks

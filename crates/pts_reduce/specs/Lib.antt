@@ -1,0 +1,4 @@
+pub mod Given
+pub mod Chain
+pub mod Pairs
+pub mod Answered
