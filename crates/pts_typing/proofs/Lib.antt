@@ -1,0 +1,11 @@
+pub mod Right
+pub mod Parts
+pub mod Rows
+pub mod Exact
+pub mod ByParts
+pub mod Steps
+pub mod Tests
+pub mod Ends
+pub mod Derived
+pub mod Scoped
+pub mod Worked
