@@ -15,8 +15,6 @@ mod split;
 mod state;
 mod table;
 mod term;
-#[cfg(test)]
-mod tests;
 mod word;
 
 pub use certificate::{Certificate, read_certificate};

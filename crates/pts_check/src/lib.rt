@@ -18,6 +18,3 @@ pub use pts_ctx::{Context, Entry, System};
 pub use pts_record::{Declaration, Form, Name, Node, Record, Shape, Sort, Term};
 pub use pts_rules::Why;
 pub use verdict::{Verdict, check, concludes};
-
-#[cfg(test)]
-mod tests;

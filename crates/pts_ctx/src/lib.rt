@@ -14,6 +14,3 @@ pub use entry::Entry;
 pub use pts_names::{NameFault, SortName, SortNameFault};
 pub use pts_terms::{Boxed, Name, Sort, Term};
 pub use system::{System, SystemFault, SystemPart};
-
-#[cfg(test)]
-mod tests;

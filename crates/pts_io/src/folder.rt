@@ -1,5 +1,6 @@
-ghost use Rattle.std.specs.Prelude.{None, IfOk};
+ghost use Rattle.std.specs.Prelude.{◌≡◌, None, Ok, Err, IfOk};
 ghost use Rattle.pts_io.specs.Files.{IsWithin};
+ghost use Rattle.pts_io.specs.declared.libraries.Found.TheVariants.{Bytes, TooLong};
 
 use crate::faults::{ReadFail, ReadFault};
 use crate::libraries::{FILE_LIMIT, Found, Library};
@@ -61,7 +62,17 @@ fn read_file<R: Files>(rt: &R, alloc: Global, name: &str) -> Result<Found, ReadF
         Err(error) if error.kind() == ErrorKind::NotFound => return Ok(Found::NoFile),
         Err(_) => return Err(ReadFail::Failed),
     };
-    match read_whole(alloc, &mut StdSource::new(file), FILE_LIMIT) {
+    found_by(read_whole(alloc, &mut StdSource::new(file), FILE_LIMIT))
+}
+
+// What is found where an open file was read so. It is never that there is no file.
+fn found_by(read: Result<Vec<u8>, ReadFault>) -> Result<Found, ReadFail>
+    ensures bytes { IfOk read (λ bytes. result ≡ Ok (Bytes bytes)) }
+    ensures too_long { read ≡ Err ReadFault.TooMuch → result ≡ Ok TooLong }
+    ensures failed { read ≡ Err ReadFault.Failed → result ≡ Err ReadFail.Failed }
+    ensures memory { read ≡ Err ReadFault.Memory → result ≡ Err ReadFail.Memory }
+{
+    match read {
         Ok(bytes) => Ok(Found::Bytes(bytes)),
         Err(ReadFault::TooMuch) => Ok(Found::TooLong),
         Err(ReadFault::Failed) => Err(ReadFail::Failed),

@@ -13,8 +13,6 @@ mod schedule;
 mod sinks;
 mod sources;
 mod standard;
-#[cfg(test)]
-mod tests;
 mod whole;
 
 pub use faults::{Fail, ReadFail, ReadFault};

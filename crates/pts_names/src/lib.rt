@@ -9,8 +9,6 @@ mod laws;
 mod list;
 mod name;
 mod sort_name;
-#[cfg(test)]
-mod tests;
 mod text;
 
 pub use fault::{NameFault, SortNameFault};

@@ -16,6 +16,3 @@ pub use measure::Measure;
 pub use pts_ctx::{Boxed, Name, Sort, Term};
 pub use record::Record;
 pub use shape::{Extent, Form, Node, RecordFault, Shape};
-
-#[cfg(test)]
-mod tests;

@@ -14,6 +14,3 @@ pub use operations::Big;
 pub use pts_names::Name;
 pub use sqlite_items::Boxed;
 pub use term::{Sort, Term};
-
-#[cfg(test)]
-mod tests;

@@ -1,3 +1,0 @@
-mod files;
-mod pieces;
-mod reading;

@@ -1,0 +1,75 @@
+use pts_grow::{TermFault, apply, lift, put, take_in};
+use pts_record::{Record, RecordFault, Shape, Sort, Term};
+use std::alloc::Global;
+
+fn add(record: &mut Record, shape: Shape) -> Result<usize, RecordFault> {
+    record.add_term(shape)
+}
+
+// Two sorts, and the terms `Var(0)` and `Var(1)` with the numbers 2 and 3.
+fn variables(alloc: Global) -> Result<Record, RecordFault> {
+    let mut record = Record::new(alloc);
+    add(&mut record, Shape::Sort(Sort(0)))?;
+    add(&mut record, Shape::Sort(Sort(1)))?;
+    add(&mut record, Shape::Var(0))?;
+    add(&mut record, Shape::Var(1))?;
+    Ok(record)
+}
+
+// Whether the term that was made is an index, or a term that stood.
+fn is_index(record: &Record, made: Result<usize, TermFault>, wanted: u32) -> bool {
+    match made {
+        Ok(term) => term < record.terms()
+            && matches!(record.shape(term), Shape::Var(index) if *index == wanted),
+        Err(_) => false,
+    }
+}
+
+fn lifts(record: &mut Record) -> bool {
+    if record.terms() != 4 {
+        return false;
+    }
+    let kept = lift(record, 2, 1, 5);
+    let lifted = lift(record, 2, 0, 5);
+    is_index(record, kept, 0) && is_index(record, lifted, 5)
+}
+
+fn puts(record: &mut Record) -> bool {
+    if record.terms() < 4 {
+        return false;
+    }
+    let lowered = put(record, 3, 0, 0, 2);
+    let replaced = put(record, 2, 0, 0, 3);
+    is_index(record, lowered, 0) && is_index(record, replaced, 1)
+}
+
+fn applies(record: &mut Record) -> bool {
+    if record.terms() < 4 {
+        return false;
+    }
+    match apply(record, 2, 3) {
+        Ok(term) => term < record.terms() && matches!(record.shape(term), Shape::App(2, 3)),
+        Err(_) => false,
+    }
+}
+
+fn takes_in(record: &mut Record) -> bool {
+    match take_in(record, &Term::Sort(Sort(1))) {
+        Ok(term) => term < record.terms() && record.is_sort(term, Sort(1)),
+        Err(_) => false,
+    }
+}
+
+#[test]
+fn terms_are_made_of_terms(rt: HostRuntime) {
+    match variables(rt.alloc()) {
+        Ok(record) => {
+            let mut record = record;
+            assert!(rt; lifts(&mut record));
+            assert!(rt; puts(&mut record));
+            assert!(rt; applies(&mut record));
+            assert!(rt; takes_in(&mut record));
+        }
+        Err(_) => assert!(rt; false),
+    }
+}

@@ -1,0 +1,31 @@
+//! Tests of the libraries of this repository: a small module for each crate under test.
+//! The proofs say what each call answers for every input; these calls show that it answers, and in one worked case what.
+//! Stands on every library of this repository, and no crate stands on it.
+#![tactic(auto)]
+
+#[cfg(test)]
+mod certificates;
+#[cfg(test)]
+mod checks;
+#[cfg(test)]
+mod contexts;
+#[cfg(test)]
+mod growths;
+#[cfg(test)]
+mod laws;
+#[cfg(test)]
+mod libraries;
+#[cfg(test)]
+mod lines;
+#[cfg(test)]
+mod names;
+#[cfg(test)]
+mod pieces;
+#[cfg(test)]
+mod records;
+#[cfg(test)]
+mod reductions;
+#[cfg(test)]
+mod systems;
+#[cfg(test)]
+mod terms;

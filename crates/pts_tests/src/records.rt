@@ -1,0 +1,108 @@
+use pts_record::{Extent, Form, Node, Record, RecordFault, Shape, Sort, Term};
+use std::alloc::AllocError;
+
+fn add(record: &mut Record, shape: Shape) -> Result<usize, RecordFault> {
+    record.add_term(shape)
+}
+
+fn add_node(record: &mut Record, form: Form, claim: usize) -> Result<usize, RecordFault> {
+    record.add_node(Node {
+        form,
+        ctx: 0,
+        subject: 0,
+        claim,
+        first: 0,
+        second: 0,
+        third: 0,
+    })
+}
+
+/// Adds the two sorts, the empty context, and that the first sort has the term `claim`, which is 0 or 1, as its type.
+pub fn fill(record: &mut Record, claim: usize) -> Result<usize, RecordFault> {
+    add(record, Shape::Sort(Sort(0)))?;
+    add(record, Shape::Sort(Sort(1)))?;
+    add_node(record, Form::Empty, 0)?;
+    add_node(record, Form::SortAt, claim)
+}
+
+// The same with the terms `Var(0)`, `Var(1)` and the application of the first to itself.
+fn fill_more(record: &mut Record) -> Result<usize, RecordFault> {
+    fill(record, 1)?;
+    add(record, Shape::Var(0))?;
+    add(record, Shape::Var(1))?;
+    add(record, Shape::App(2, 2))
+}
+
+fn has_its_terms(record: &Record) -> bool {
+    if record.terms() != 5 {
+        return false;
+    }
+    matches!(record.shape(4), Shape::App(2, 2)) && record.measure(4).size == 3
+}
+
+fn has_its_nodes(record: &Record) -> bool {
+    record.linked();
+    if record.nodes() != 2 {
+        return false;
+    }
+    let empty = Extent {
+        length: 0,
+        typed: true,
+    };
+    record.node(1).form == Form::SortAt && record.is_judgement(1) && record.extent(1) == empty
+}
+
+fn compares(record: &Record) -> bool {
+    if record.terms() != 5 {
+        return false;
+    }
+    record.equal(4, 4) && !record.equal(0, 4) && record.is_sort(1, Sort(1))
+}
+
+fn tells_results(record: &Record) -> bool {
+    if record.terms() != 5 {
+        return false;
+    }
+    record.limits(2);
+    record.is_lift(3, 0, 1, 2) && record.is_put(0, 0, 0, 0, 2)
+}
+
+#[test]
+fn a_record_tells_its_lines_and_compares_its_terms(rt: HostRuntime) {
+    let mut record = Record::new(rt.alloc());
+    assert!(rt; matches!(fill_more(&mut record), Ok(4)));
+    assert!(rt; has_its_terms(&record));
+    assert!(rt; has_its_nodes(&record));
+    assert!(rt; compares(&record));
+    assert!(rt; tells_results(&record));
+}
+
+fn tree_at(record: &Record, number: usize) -> Result<Term, AllocError> {
+    if number >= record.terms() {
+        return Err(AllocError);
+    }
+    record.tree(number)
+}
+
+fn is_tree(record: &Record, number: usize, tree: &Result<Term, AllocError>) -> bool {
+    match tree {
+        Ok(term) => number < record.terms() && record.is_term(number, term),
+        Err(_) => false,
+    }
+}
+
+fn has_one_term(copy: &Result<Record, AllocError>) -> bool {
+    match copy {
+        Ok(copy) => copy.terms() == 1,
+        Err(_) => false,
+    }
+}
+
+#[test]
+fn a_term_is_taken_in_and_given_back(rt: HostRuntime) {
+    let mut record = Record::new(rt.alloc());
+    assert!(rt; matches!(record.add_tree(&Term::Var(3)), Ok(0)));
+    assert!(rt; is_tree(&record, 0, &tree_at(&record, 0)));
+    assert!(rt; has_one_term(&record.copy()));
+    assert!(rt; matches!(Shape::Var(7).copy(record.alloc()), Ok(Shape::Var(7))));
+}
