@@ -1,24 +1,23 @@
 -- What entered is legal.
-use Rattle.std.proofs.Common.{◌≡◌, ℕ, List, [], ◌∷◌, ◌++◌, length, map, refl, sym, ap, ◌∙◌, subst, arith, Bool, true, false, nat_le, Option, Some, None, Ok, Err, Result}
-use Rattle.std.specs.Prelude.{position, if◌then◌else◌}
+use Rattle.std.proofs.Common.{◌≡◌, ℕ, List, [], ◌∷◌, ◌++◌, length, refl, sym, ap, ◌∙◌, subst, arith, Bool, true, false, nat_le, Option, Some, None, Ok, Err, Result}
+use Rattle.std.specs.Prelude.{if◌then◌else◌}
 use Rattle.std.specs.Option.{option_map}
 use Rattle.std.proofs.lemmas.List.{map-append}
-use Rattle.pts_names.specs.Name.{Name, same_name}
+use Rattle.pts_names.specs.Name.{Name}
 use Rattle.pts_ctx.specs.System.{Specification}
-use Rattle.pts_ctx.specs.Front.{Global, Front, find, Fresh, bare_global, bare_front}
+use Rattle.pts_ctx.specs.Front.{Global, find, Fresh, bare_global, bare_front}
 use Rattle.pts_ctx.specs.Seen.{place_of}
 use Rattle.pts_rules.specs.declared.why.Why.{Why}
-use Rattle.pts_rules.specs.declared.why.Why.TheVariants.{Conclusion}
 use Rattle.pts_rules.specs.Derives.{Legal, legal_empty}
 use Rattle.pts_rules.specs.Valid.{first_fault, concludes}
 use Rattle.pts_rules.proofs.Sound.{conclusion_legal}
-use Rattle.pts_check.proofs.Found.{find_bare}
+use Rattle.pts_rules.proofs.HeadBare.{find_bare}
 use Rattle.pts_certificate.specs.declared.fault.CertificateFault.{CertificateFault}
 use Rattle.pts_certificate.specs.Certificate.{Declared, Written, certificate_of}
 use Rattle.yarrow.specs.declared.enter.Refusal.{Refusal}
-use Rattle.yarrow.specs.declared.enter.Refusal.TheVariants.{Clash, Full, Faulty}
+use Rattle.yarrow.specs.declared.enter.Refusal.TheVariants.{Full, Faulty}
 use Rattle.yarrow.specs.Enter.{Entered, entry_of, unless_concluded, or_conclusion, declaration_fault, or_full, or_clash, refusal_of, or_on, enter_all}
-use Rattle.yarrow.specs.Answers.{answer_by, answer_entered, answer_read, answer_to, IsLegalBy}
+use Rattle.yarrow.specs.Answers.{answer_by, answer_read, answer_to, IsLegalBy}
 
 no_place : (x : Name) (G : List (Global Name)) → place_of x G ≡ None → find x G ≡ None
 unfolding find

@@ -1,7 +1,7 @@
 -- A list of one word.
 use Rattle.std.proofs.Common.{◌≡◌, ◌≢◌, ℕ, List, [], ◌∷◌, length, map, get_or, ap, arith, ◌∙◌, sym}
 use Rattle.std.proofs.lemmas.List.{length-map}
-use Rattle.std.proofs.Common.{IsTrue, Bool, true, false, nat_eq, subst, refl}
+use Rattle.std.proofs.Common.{IsTrue, Bool, true, nat_eq, subst}
 use Rattle.std.specs.Cmp.Lexicographic.{pointwise}
 use Rattle.pts_names.proofs.Same.{same_name-pointwise, same_name-true, same_name-self}
 

@@ -12,7 +12,7 @@ use Rattle.pts_certificate.specs.Certificate.{Written, certificate_of}
 use Rattle.yarrow.specs.declared.enter.Refusal.{Refusal}
 use Rattle.yarrow.specs.Enter.{enter_all}
 use Rattle.yarrow.specs.Answers.{answer_to, answer_read, answer_by, IsLegalBy}
-use Rattle.yarrow.specs.Runs.{Outside, Prints, PrintsPart, IsLine, IsQuiet, IsCheckStatus, IsCheckRun, IsUsageRun}
+use Rattle.yarrow.specs.Runs.{Outside, Prints, PrintsPart, IsLine, IsCheckStatus, IsCheckRun, IsUsageRun}
 use Rattle.yarrow.proofs.LegalEnd.{answer_legal, some_legal, none_legal, none_chosen}
 
 -- The line was printed with the wanted status, or could not be.

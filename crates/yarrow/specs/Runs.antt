@@ -1,5 +1,5 @@
 -- What a run of the program does, by what its source and its sink show of it.
-use Rattle.std.specs.Prelude.{◌≡◌, ℕ, ◌≤◌, ◌⊎◌, List, [], ◌∷◌, length, take, codes, Option, IfSome}
+use Rattle.std.specs.Prelude.{◌≡◌, ℕ, ◌≤◌, ◌⊎◌, List, [], length, take, codes, Option, IfSome}
 use Rattle.std.specs.Io.KnownBytes.{append_known}
 use Rattle.pts_io.specs.Counts.{raised, Rose}
 use Rattle.pts_names.specs.Name.{Name}

@@ -11,7 +11,7 @@ mod tests;
 mod words;
 
 use crate::run::run;
-use pts_io::{StdSink, StdSource};
+use pts_io::{FolderLibrary, StdSink, StdSource};
 use std::env;
 use std::process::ExitCode;
 
@@ -27,6 +27,13 @@ fn main(rt: HostRuntime) -> ExitCode {
     };
     let mut source = StdSource::new(rt.stdin());
     let mut sink = StdSink::new(rt.stdout());
-    let finish = run(alloc, words.as_slice(), &mut source, &mut sink);
+    let mut library = FolderLibrary::new(rt);
+    let finish = run(
+        alloc,
+        words.as_slice(),
+        &mut source,
+        &mut sink,
+        &mut library,
+    );
     ExitCode::from(finish.status)
 }

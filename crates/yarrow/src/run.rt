@@ -7,7 +7,7 @@ ghost use Rattle.yarrow.specs.Runs.{IsCheckRun, IsUsageRun};
 
 use crate::answer::{Answer, answer_to};
 use pts_ctx::Context;
-use pts_io::{ReadFault, Sink, Source, read_whole, write_whole};
+use pts_io::{Library, ReadFault, Sink, Source, read_whole, write_whole};
 use pts_names::List;
 use std::alloc::Global;
 
@@ -22,18 +22,21 @@ pub struct Finish {
     pub order: List<List<u32>>,
 }
 
-/// Runs the program with the words behind its own name. The one form is `check`; all others print `usage`, with
-/// status 2, and take nothing from the source.
-pub fn run<S: Source, K: Sink>(
+/// Runs the program with the words behind its own name. The one form is `check`, which reads no file; all others print
+/// `usage`, with status 2, and take nothing from the source.
+pub fn run<S: Source, K: Sink, L: Library>(
     alloc: Global,
     words: &[String],
     source: &mut S,
     sink: &mut K,
+    library: &mut L,
 ) -> Finish
     ensures check { map string_bytes words.now ≡ codes "check" ∷ [] → IsCheckRun (record { left = S.left source.old; given = S.given source.old; given_after = S.given source.new; read_faults = S.faults source.old; read_faults_after = S.faults source.new; written = K.written sink.old; written_after = K.written sink.new; write_faults = K.faults sink.old; write_faults_after = K.faults sink.new }) result.status result.context.entries }
     ensures usage { map string_bytes words.now ≢ codes "check" ∷ [] → IsUsageRun (record { left = S.left source.old; given = S.given source.old; given_after = S.given source.new; read_faults = S.faults source.old; read_faults_after = S.faults source.new; written = K.written sink.old; written_after = K.written sink.new; write_faults = K.faults sink.old; write_faults_after = K.faults sink.new }) result.status result.context.entries }
+    ensures library { library.new ≡ library.old }
     ensures order { result.order ≡ [] }
 {
+    let _ = &library;
     if is_check(words) {
         run_check(alloc, source, sink)
     } else {

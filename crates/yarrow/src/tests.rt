@@ -1,8 +1,94 @@
-use crate::enter::ROOM;
-use crate::run::LIMIT;
+use crate::enter::{Entrance, ROOM, enter_all};
+use crate::run::{LIMIT, run, run_check};
+use pts_certificate::{Certificate, read_certificate};
+use pts_io::{MemoryLibrary, MemorySink, MemorySource};
+use std::alloc::{AllocError, Global};
+
+/// The declaration `x` of the sort `*`, in a system with `* : #`.
+const AXIOM: &str =
+    "yarrow-certificate 1\nsorts * #\naxiom * #\ndefine x\nt sort *\nt sort #\nn empty\nn sort 0 0 1\nqed\nend\n";
 
 #[test]
 fn the_limits_are_those_of_the_manual(rt: HostRuntime) {
-    assert_eq!(rt; LIMIT, 16 * 1024 * 1024);
-    assert_eq!(rt; ROOM, 200_000);
+    assert!(rt; LIMIT == 16 * 1024 * 1024 && ROOM == 200_000);
+}
+
+fn entered(alloc: Global, certificate: Certificate) -> Result<Entrance, AllocError> {
+    let Certificate {
+        system,
+        declarations,
+    } = certificate;
+    enter_all(alloc, &system, declarations.into_vec())
+}
+
+fn has_one_entry(entrance: &Result<Entrance, AllocError>) -> bool {
+    match entrance {
+        Ok(entrance) => entrance.refusal.is_none() && entrance.context.len() == 1,
+        Err(_) => false,
+    }
+}
+
+#[test]
+fn a_declaration_enters_the_empty_context(rt: HostRuntime) {
+    match read_certificate(rt.alloc(), AXIOM.as_bytes()) {
+        Ok(certificate) => {
+            assert!(rt; has_one_entry(&entered(rt.alloc(), certificate)));
+        }
+        Err(_) => assert!(rt; false),
+    }
+}
+
+// Gives one byte in a call.
+fn source_of(alloc: Global, text: &str) -> Result<MemorySource, AllocError> {
+    let bytes = Vec::from_slice(alloc, text.as_bytes())?;
+    Ok(MemorySource::new(bytes, 1, Vec::new(alloc)))
+}
+
+fn sink_of(alloc: Global) -> Result<MemorySink, AllocError> {
+    MemorySink::new(alloc, 100, Vec::new(alloc))
+}
+
+fn status(alloc: Global, words: &[String], source: &mut MemorySource, sink: &mut MemorySink) -> u8 {
+    let mut library = MemoryLibrary::new(Vec::new(alloc), Vec::new(alloc));
+    run(alloc, words, source, sink, &mut library).status
+}
+
+fn answers(alloc: Global, words: &[String], wanted: u8, line: &str) -> Result<bool, AllocError> {
+    let mut source = source_of(alloc, AXIOM)?;
+    let mut sink = sink_of(alloc)?;
+    let status = status(alloc, words, &mut source, &mut sink);
+    Ok(status == wanted && sink.bytes() == line.as_bytes())
+}
+
+fn words_of(alloc: Global, word: &str) -> Option<Vec<String>> {
+    let mut words = Vec::new(alloc);
+    words.push(String::from_str(alloc, word).ok()?).ok()?;
+    Some(words)
+}
+
+#[test]
+fn the_word_check_checks_and_another_has_no_form(rt: HostRuntime) {
+    match words_of(rt.alloc(), "check") {
+        Some(words) => {
+            assert!(rt; matches!(answers(rt.alloc(), &words, 0, "valid 1\n"), Ok(true)));
+            assert!(rt; matches!(answers(rt.alloc(), &[], 2, "usage\n"), Ok(true)));
+        }
+        None => assert!(rt; false),
+    }
+}
+
+fn check_status(alloc: Global, source: &mut MemorySource, sink: &mut MemorySink) -> u8 {
+    run_check(alloc, source, sink).status
+}
+
+fn refuses_no_text(alloc: Global) -> Result<bool, AllocError> {
+    let mut source = source_of(alloc, "")?;
+    let mut sink = sink_of(alloc)?;
+    let status = check_status(alloc, &mut source, &mut sink);
+    Ok(status == 1 && sink.bytes() == b"unreadable Truncated\n".as_slice())
+}
+
+#[test]
+fn a_text_that_is_no_certificate_is_unreadable(rt: HostRuntime) {
+    assert!(rt; matches!(refuses_no_text(rt.alloc()), Ok(true)));
 }

@@ -1,5 +1,5 @@
-use Rattle.std.proofs.Common.{◌∙◌, sym, string_bytes}
-use Rattle.yarrow.proofs.OneWord.{one_word, word_of_one, word_test}
+use Rattle.std.proofs.Common.{string_bytes}
+use Rattle.yarrow.proofs.OneWord.{word_test}
 use Rattle.yarrow.proofs.run.is_check.Goals as goal
 
 pub returns : goal.returns
