@@ -32,6 +32,10 @@ fn the_laws_of_inference_can_be_called() {
     pts_typing::sorts_are_sound();
     pts_typing::sort_tests_are_sound();
     pts_typing::fits_are_sound();
+    pts_typing::flaws_are_scoped();
+    pts_typing::flaws_of_sorts_are_scoped();
+    pts_typing::flaws_of_sort_tests_are_scoped();
+    pts_typing::flaws_of_fits_are_scoped();
 }
 
 fn pays(meter: &mut Meter, units: u64, spent: u64) -> bool {

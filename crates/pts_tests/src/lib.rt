@@ -1,6 +1,6 @@
-//! Tests of the libraries of this repository: a small module for each crate under test.
+//! Tests of the libraries on which the program stands, of the laws, and of reduction: a small module for each part.
 //! The proofs say what each call answers for every input; these calls show that it answers, and in one worked case what.
-//! Stands on every library of this repository, and no crate stands on it.
+//! No crate stands on it.
 #![tactic(auto)]
 
 #[cfg(test)]
