@@ -11,9 +11,13 @@ ghost use Rattle.pts_grow.specs.Keeps.{Keeps, StaysValid, IsTerm, WhyNot};
 use crate::TermFault;
 use pts_record::{Record, RecordFault, Shape, Term};
 
-// Adds a line to the table of terms.
+/// Adds a line to the table of terms: a leaf, or a term made of terms of the record.
+///
+/// # Errors
+///
+/// `TooLarge` exactly where the term is not within limits. `Memory`, also where a part does not stand.
 #[tactic(auto, using(crate::proofs::Grow::lines))]
-fn add_line(proof: &mut Record, shape: Shape) -> Result<usize, TermFault>
+pub fn add_line(proof: &mut Record, shape: Shape) -> Result<usize, TermFault>
     ensures term { IfOk result (λ n. IsTerm proof.new n (unfold_shape the_name (named_trees proof.old.shapes) shape)) }
     ensures within { OnOk result (within (unfold_shape the_name (named_trees proof.old.shapes) shape) ≡ true) }
     ensures refused { IfErr result (λ e. WhyNot e (unfold_shape the_name (named_trees proof.old.shapes) shape)) }
