@@ -1,0 +1,12 @@
+pub mod Outwards
+pub mod Paid
+pub mod Runs
+pub mod Forms
+pub mod Atoms
+pub mod Sorting
+pub mod Fitting
+pub mod Domains
+pub mod Applying
+pub mod Binding
+pub mod Defining
+pub mod Refusals

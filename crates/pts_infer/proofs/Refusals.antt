@@ -1,0 +1,62 @@
+-- What the public calls answer.
+use Rattle.std.proofs.Common.{◌≡◌, ℕ, ◌<◌, ap, ◌∙◌, subst, List, length}
+use Rattle.pts_names.specs.Name.{Name}
+use Rattle.pts_terms.specs.Tree.{Named, sort}
+use Rattle.pts_ctx.specs.System.{Specification}
+use Rattle.pts_record.specs.declared.shape.Shape.{Shape}
+use Rattle.pts_record.specs.Table.{Tables, named_at}
+use Rattle.pts_record.specs.Said.{named_told, judgement, scope_of}
+use Rattle.pts_costs.specs.Costs.{Globals, Entries}
+use Rattle.pts_costs.specs.Run.{Run, ends, fails, deep, spent}
+use Rattle.pts_costs.specs.Laws.{WithinBudget}
+use Rattle.pts_typing.specs.Typing.{Flaw, Infers, Outcome, comes, inference_nesting}
+use Rattle.pts_typing.specs.Laws.{IsWork}
+use Rattle.pts_typing.specs.Inference.{inferred}
+use Rattle.pts_typing.proofs.Exact.{inference_within, inference_exact}
+use Rattle.pts_grow.specs.Keeps.{Keeps, IsNode}
+use Rattle.pts_grow.proofs.Grow.{tree_stays, told_stays}
+use Rattle.pts_judge.specs.declared.judged.Judged.{Judged}
+use Rattle.pts_judge.specs.Judges.{Judges}
+use Rattle.pts_infer.specs.declared.fault.Fault.{Fault}
+use Rattle.pts_infer.specs.declared.fault.Fault.TheVariants.{Spent, Deep, Memory, Flawed}
+use Rattle.pts_infer.specs.declared.answer.InferFault.{InferFault}
+use Rattle.pts_infer.specs.declared.answer.InferFault.TheVariants as infer
+use Rattle.pts_infer.specs.Given.{StopsWith, Stand, flaw_of}
+use Rattle.pts_infer.specs.Answered.{Refused, ShownAs}
+
+-- The terms of a fault stand.
+pub fault_stands : {A : Type 0} (ss : List Shape) (e : Fault) (k : ℕ) (r : Run Flaw A) → StopsWith ss e k r → Stand (length ss) e
+fault_stands ss Memory k r h = tt
+fault_stands ss Spent k r h = tt
+fault_stands ss Deep k r h = tt
+fault_stands ss (Flawed f) k r h = h.0
+
+-- Exact work that stopped is refused.
+refused_as : {A : Type 0} (costs : Outcome Flaw A → ℕ → Type 0) (b : ℕ) (r : Run Flaw A) (ss : List Shape) (xs : List Name) (e : Fault) (h : InferFault) (k : ℕ) → IsWork costs b r → ShownAs ss xs e h → StopsWith ss e k r → Refused xs costs h b k
+refused_as costs b r ss xs e infer.Memory k w t s = tt
+refused_as costs b r ss xs Spent infer.Spent k w t s = (subst (IsWork costs b) s.0 w, s.1)
+refused_as costs b r ss xs Deep infer.Deep k w t s = subst (IsWork costs b) s w
+refused_as costs b r ss xs (Flawed f) (infer.Flaw h) k w t s = (flaw_of ss f, t, subst (IsWork costs b) s.1 w)
+refused_as costs b r ss xs Spent infer.Deep k w t s = absurd t
+refused_as costs b r ss xs Spent (infer.Flaw h) k w t s = absurd t
+refused_as costs b r ss xs Deep infer.Spent k w t s = absurd t
+refused_as costs b r ss xs Deep (infer.Flaw h) k w t s = absurd t
+refused_as costs b r ss xs Memory infer.Spent k w t s = absurd t
+refused_as costs b r ss xs Memory infer.Deep k w t s = absurd t
+refused_as costs b r ss xs Memory (infer.Flaw h) k w t s = absurd t
+refused_as costs b r ss xs (Flawed f) infer.Spent k w t s = absurd t
+refused_as costs b r ss xs (Flawed f) infer.Deep k w t s = absurd t
+
+module _ (S : Specification) (G : Globals) (L : Entries) (t : Named) (b : ℕ) where
+  pub inference_refused : (ss : List Shape) (xs : List Name) (e : Fault) (h : InferFault) (k : ℕ) → ShownAs ss xs e h → StopsWith ss e k (inferred S G 4000 L t b) → Refused xs (Infers S G inference_nesting L t) h b k
+  inference_refused ss xs e h k s r = refused_as (Infers S G 4000 L t) b (inferred S G 4000 L t b) ss xs e h k (inference_exact S G 4000 L t b) s r
+
+-- The judgement that was inferred.
+pub inference_judged : (S : Specification) (G : Globals) (L : Entries) (a n : Tables) (c t : ℕ) (b k : ℕ) (j : Judged) → Keeps a n → c < length a.nodes → t < length a.shapes → j.subject ≡ t → Judges n c j → inferred S G 4000 L (named_at a.shapes t) b ≡ ends (named_at n.shapes j.claim) k → (T : Named) × WithinBudget (Infers S G inference_nesting L (named_at a.shapes t)) b (comes T) k × IsNode n j.node (judgement c (scope_of (named_told a c)) (named_at a.shapes t) T)
+inference_judged S G L a n c t b k j g l m p h r =
+    let x = told_stays a n c g l in
+    let y = tree_stays a n t g m in
+    let w = inference_within S G 4000 L (named_at a.shapes t) (named_at n.shapes j.claim) b k r in
+    (named_at n.shapes j.claim, w, (h.2.0, h.2.1 ∙ ap (λ m. judgement c (scope_of m) (named_at n.shapes j.subject) (named_at n.shapes j.claim)) x ∙ ap (λ u. judgement c (scope_of (named_told a c)) u (named_at n.shapes j.claim)) (ap (named_at n.shapes) p ∙ y)))
+
+pub ruleset inferences = (fault_stands, inference_refused, inference_judged)

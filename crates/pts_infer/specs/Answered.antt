@@ -1,0 +1,61 @@
+-- What the public calls answer, against what inference comes to.
+use Rattle.std.specs.Prelude.{◌≡◌, ◌<◌, ◌++◌, ℕ, List, length}
+use Rattle.pts_names.specs.Name.{Name}
+use Rattle.pts_terms.specs.Tree.{Named, sort}
+use Rattle.pts_terms.specs.Seen.{named}
+use Rattle.pts_ctx.specs.System.{Specification}
+use Rattle.pts_record.specs.declared.shape.Shape.{Shape}
+use Rattle.pts_record.specs.Table.{Tables}
+use Rattle.pts_record.specs.Said.{Said, judgement}
+use Rattle.pts_costs.specs.Costs.{Globals, Entries}
+use Rattle.pts_costs.specs.Laws.{WithinBudget, AboveBudget}
+use Rattle.pts_grow.specs.Keeps.{IsNode}
+use Rattle.pts_typing.specs.Typing.{Kind, not_a_sort, not_product, no_rule, no_axiom, not_convertible, Flaw, FitFlaw, wanted, judged, by_flaw, by_limits, Outcome, comes, stops}
+use Rattle.pts_infer.specs.declared.answer.FlawKind.{FlawKind}
+use Rattle.pts_infer.specs.declared.answer.FlawKind.TheVariants as kind
+use Rattle.pts_infer.specs.declared.answer.Flaw as answer
+use Rattle.pts_infer.specs.declared.answer.InferFault.{InferFault}
+use Rattle.pts_infer.specs.declared.answer.InferFault.TheVariants as infer
+use Rattle.pts_infer.specs.declared.answer.FitFault.{FitFault}
+use Rattle.pts_infer.specs.declared.answer.FitFault.TheVariants as fit
+use Rattle.pts_infer.specs.declared.fault.Fault.{Fault}
+use Rattle.pts_infer.specs.declared.fault.Fault.TheVariants.{Spent, Deep, Memory, Flawed}
+use Rattle.pts_infer.specs.Given.{Shows, flaw_of}
+
+-- The flaw that an answer tells.
+abbrev pub kind_seen : FlawKind → Kind
+kind_seen (kind.NotASort t) = not_a_sort (named t)
+kind_seen (kind.NotProduct t) = not_product (named t)
+kind_seen (kind.NoRule s r) = no_rule s.0 r.0
+kind_seen (kind.NoAxiom s) = no_axiom s.0
+kind_seen (kind.NotConvertible place have want) = not_convertible place (named have) (named want)
+
+abbrev pub flaw_seen : answer.Flaw → Flaw
+flaw_seen f = record { place = f.place; names = f.names; kind = kind_seen f.kind }
+
+-- A flaw with these names before those of the binders on the way.
+abbrev pub behind : List Name → Flaw → Flaw
+behind xs f = record { place = f.place; names = xs ++ f.names; kind = f.kind }
+
+-- Why there was no answer, with b units before and k after it: the outcome is the flaw that is told, or something
+-- beyond the limits; or each outcome costs more than b, and the meter stands at its limit. Want of memory is free.
+abbrev pub Refused : {A : Type 0} → List Name → (Outcome Flaw A → ℕ → Type 0) → InferFault → ℕ → ℕ → Type 0
+Refused xs costs (infer.Flaw f) b k = (g : Flaw) × (flaw_seen f ≡ behind xs g) × WithinBudget costs b (stops (by_flaw g)) k
+Refused xs costs infer.Spent b k = AboveBudget costs b × (k ≡ 0)
+Refused xs costs infer.Deep b k = WithinBudget costs b (stops by_limits) k
+Refused xs costs infer.Memory b k = Unit {0}
+
+abbrev pub Unfit : List Name → (Outcome FitFlaw (Unit {0}) → ℕ → Type 0) → FitFault → ℕ → ℕ → Type 0
+Unfit xs costs (fit.Wanted f) b k = (g : Flaw) × (flaw_seen f ≡ behind xs g) × WithinBudget costs b (stops (by_flaw (wanted g))) k
+Unfit xs costs (fit.Judged f) b k = (g : Flaw) × (flaw_seen f ≡ behind xs g) × WithinBudget costs b (stops (by_flaw (judged g))) k
+Unfit xs costs fit.Spent b k = AboveBudget costs b × (k ≡ 0)
+Unfit xs costs fit.Deep b k = WithinBudget costs b (stops by_limits) k
+Unfit xs costs fit.Memory b k = Unit {0}
+
+-- The answer tells the fault, a flaw with these names before its own.
+abbrev pub ShownAs : List Shape → List Name → Fault → InferFault → Type 0
+ShownAs ss xs e infer.Memory = Unit {0}
+ShownAs ss xs Spent infer.Spent = Unit {0}
+ShownAs ss xs Deep infer.Deep = Unit {0}
+ShownAs ss xs (Flawed f) (infer.Flaw h) = flaw_seen h ≡ behind xs (flaw_of ss f)
+ShownAs ss xs e h = ⊥

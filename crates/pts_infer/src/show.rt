@@ -1,0 +1,101 @@
+// Flaws, as they are answered: by terms in place of numbers.
+
+ghost use Rattle.std.specs.Prelude.{◌≡◌, ◌++◌, IfOk, length, reverse};
+ghost use Rattle.pts_infer.specs.Given.{Shows, Stand, flaw_of, kind_of};
+ghost use Rattle.pts_infer.specs.Answered.{kind_seen, flaw_seen, behind, ShownAs};
+
+use crate::answer::{Flaw, FlawKind, InferFault};
+use crate::fault::{Fault, Found, What};
+use pts_names::{List, Name};
+use pts_record::Record;
+use std::alloc::{AllocError, Global};
+
+// What is wrong, by terms.
+fn show_kind(proof: &Record, what: What) -> Result<FlawKind, AllocError>
+    requires { Shows (length proof.now.shapes) what }
+    ensures { IfOk result (λ k. kind_seen k ≡ kind_of proof.now.shapes what) }
+{
+    Ok(match what {
+        What::NotASort(term) => FlawKind::NotASort(proof.tree(term)?),
+        What::NotProduct(term) => FlawKind::NotProduct(proof.tree(term)?),
+        What::NoRule(first, second) => FlawKind::NoRule(first, second),
+        What::NoAxiom(sort) => FlawKind::NoAxiom(sort),
+        What::NotConvertible(place, have, want) => show_types(proof, place, have, want)?,
+    })
+}
+
+// Two types that are not convertible.
+fn show_types(
+    proof: &Record,
+    place: List<u8>,
+    have: usize,
+    want: usize,
+) -> Result<FlawKind, AllocError>
+    requires { Shows (length proof.now.shapes) (What.NotConvertible place have want) }
+    ensures { IfOk result (λ k. kind_seen k ≡ kind_of proof.now.shapes (What.NotConvertible place have want)) }
+{
+    let have = proof.tree(have)?;
+    let want = proof.tree(want)?;
+    Ok(FlawKind::NotConvertible { place, have, want })
+}
+
+// Copies of names.
+fn copies(alloc: Global, names: &[Name]) -> Result<Vec<Name>, AllocError>
+    ensures { IfOk result (λ v. v.items ≡ names.now) }
+{
+    let mut copies = Vec::new(alloc);
+    for name in names {
+        copies.push(name.copy(alloc)?)?;
+    }
+    Ok(copies)
+}
+
+// The given names, and behind them those that were passed, of which the last is the outermost.
+fn show_names(
+    alloc: Global,
+    given: &[Name],
+    passed: Vec<Name>,
+) -> Result<List<Name>, AllocError>
+    ensures { IfOk result (λ l. l ≡ given.now ++ reverse passed.items) }
+{
+    let mut names = copies(alloc, given)?;
+    let mut passed = passed;
+    'names: while let Some(name) = passed.pop() {
+        names.push(name)?;
+    }
+    Ok(List::of(names))
+}
+
+/// A flaw that was found.
+pub(crate) fn show_flaw(proof: &Record, names: &[Name], found: Found) -> Result<Flaw, AllocError>
+    requires { Shows (length proof.now.shapes) found.what }
+    ensures { IfOk result (λ f. flaw_seen f ≡ behind names.now (flaw_of proof.now.shapes found)) }
+{
+    let Found {
+        mut place,
+        names: passed,
+        what,
+    } = found;
+    place.reverse();
+    Ok(Flaw {
+        place: List::of(place),
+        names: show_names(proof.alloc(), names, passed)?,
+        kind: show_kind(proof, what)?,
+    })
+}
+
+/// A fault of inference.
+pub(crate) fn show_fault(proof: &Record, names: &[Name], fault: Fault) -> InferFault
+    requires { Stand (length proof.now.shapes) fault }
+    ensures { ShownAs proof.now.shapes names.now fault result }
+{
+    match fault {
+        Fault::Flawed(found) => match show_flaw(proof, names, found.into_inner()) {
+            Ok(flaw) => InferFault::Flaw(flaw),
+            Err(_) => InferFault::Memory,
+        },
+        Fault::Spent => InferFault::Spent,
+        Fault::Deep => InferFault::Deep,
+        Fault::Memory => InferFault::Memory,
+    }
+}
