@@ -10,3 +10,4 @@ pub mod Applying
 pub mod Binding
 pub mod Defining
 pub mod Refusals
+pub mod Conclusions

@@ -32,7 +32,7 @@ fault_stands ss Deep k r h = tt
 fault_stands ss (Flawed f) k r h = h.0
 
 -- Exact work that stopped is refused.
-refused_as : {A : Type 0} (costs : Outcome Flaw A → ℕ → Type 0) (b : ℕ) (r : Run Flaw A) (ss : List Shape) (xs : List Name) (e : Fault) (h : InferFault) (k : ℕ) → IsWork costs b r → ShownAs ss xs e h → StopsWith ss e k r → Refused xs costs h b k
+pub refused_as : {A : Type 0} (costs : Outcome Flaw A → ℕ → Type 0) (b : ℕ) (r : Run Flaw A) (ss : List Shape) (xs : List Name) (e : Fault) (h : InferFault) (k : ℕ) → IsWork costs b r → ShownAs ss xs e h → StopsWith ss e k r → Refused xs costs h b k
 refused_as costs b r ss xs e infer.Memory k w t s = tt
 refused_as costs b r ss xs Spent infer.Spent k w t s = (subst (IsWork costs b) s.0 w, s.1)
 refused_as costs b r ss xs Deep infer.Deep k w t s = subst (IsWork costs b) s w

@@ -1,7 +1,8 @@
 -- What the public calls answer, against what inference comes to.
-use Rattle.std.specs.Prelude.{◌≡◌, ◌<◌, ◌++◌, ℕ, List, length}
+use Rattle.std.specs.Prelude.{◌≡◌, ◌+◌, ◌++◌, ℕ, List, [], length, true, false}
 use Rattle.pts_names.specs.Name.{Name}
 use Rattle.pts_terms.specs.Tree.{Named, sort}
+use Rattle.pts_terms.specs.Limits.{within}
 use Rattle.pts_terms.specs.Seen.{named}
 use Rattle.pts_ctx.specs.System.{Specification}
 use Rattle.pts_record.specs.declared.shape.Shape.{Shape}
@@ -10,7 +11,7 @@ use Rattle.pts_record.specs.Said.{Said, judgement}
 use Rattle.pts_costs.specs.Costs.{Globals, Entries}
 use Rattle.pts_costs.specs.Laws.{WithinBudget, AboveBudget}
 use Rattle.pts_grow.specs.Keeps.{IsNode}
-use Rattle.pts_typing.specs.Typing.{Kind, not_a_sort, not_product, no_rule, no_axiom, not_convertible, Flaw, FitFlaw, wanted, judged, by_flaw, by_limits, Outcome, comes, stops}
+use Rattle.pts_typing.specs.Typing.{Infers, Sorts, Fits, inference_nesting, Stop, moved, Kind, not_a_sort, not_product, no_rule, no_axiom, not_convertible, Flaw, FitFlaw, wanted, judged, by_flaw, by_limits, Outcome, comes, stops}
 use Rattle.pts_infer.specs.declared.answer.FlawKind.{FlawKind}
 use Rattle.pts_infer.specs.declared.answer.FlawKind.TheVariants as kind
 use Rattle.pts_infer.specs.declared.answer.Flaw as answer
@@ -51,6 +52,23 @@ Unfit xs costs (fit.Judged f) b k = (g : Flaw) × (flaw_seen f ≡ behind xs g) 
 Unfit xs costs fit.Spent b k = AboveBudget costs b × (k ≡ 0)
 Unfit xs costs fit.Deep b k = WithinBudget costs b (stops by_limits) k
 Unfit xs costs fit.Memory b k = Unit {0}
+
+-- What becomes of a term that is handed in: it must be within limits, and is then inferred in the empty context.
+pub data OfTerm (S : Specification) (G : Globals) (t : Named) : Outcome Flaw Named → ℕ → Type 0 where
+  term_too_large : within t ≡ false → OfTerm S G t (stops by_limits) 0
+  term_inferred : {o : Outcome Flaw Named} {n : ℕ} → within t ≡ true → Infers S G inference_nesting [] t o n → OfTerm S G t o n
+
+-- The same of the type of an assumption, with the sort test.
+pub data OfType (S : Specification) (G : Globals) (A : Named) : Outcome Flaw ℕ → ℕ → Type 0 where
+  type_too_large : within A ≡ false → OfType S G A (stops by_limits) 0
+  type_sorted : {o : Outcome Flaw ℕ} {n : ℕ} → within A ≡ true → Sorts S G inference_nesting [] A o n → OfType S G A o n
+
+-- The same of a term with a type that is given: the limits of both come first, then the inference, then the fit.
+pub data OfFitted (S : Specification) (G : Globals) (t A : Named) : Outcome FitFlaw (Unit {0}) → ℕ → Type 0 where
+  body_too_large : within t ≡ false → OfFitted S G t A (stops by_limits) 0
+  wanted_too_large : within t ≡ true → within A ≡ false → OfFitted S G t A (stops by_limits) 0
+  body_stops : {e : Stop Flaw} {n : ℕ} → within t ≡ true → within A ≡ true → Infers S G inference_nesting [] t (stops e) n → OfFitted S G t A (stops (moved judged e)) n
+  body_fitted : {T : Named} {o : Outcome FitFlaw (Unit {0})} {m n : ℕ} → within t ≡ true → within A ≡ true → Infers S G inference_nesting [] t (comes T) m → Fits S G inference_nesting [] T A o n → OfFitted S G t A o (m + n)
 
 -- The answer tells the fault, a flaw with these names before its own.
 abbrev pub ShownAs : List Shape → List Name → Fault → InferFault → Type 0

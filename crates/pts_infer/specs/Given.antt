@@ -1,5 +1,5 @@
 -- What an inner call answered, against the work that it stands for.
-use Rattle.std.specs.Prelude.{◌≡◌, ◌<◌, ℕ, List, reverse, length, Result, Ok, Err}
+use Rattle.std.specs.Prelude.{◌≡◌, ◌<◌, ℕ, List, [], reverse, length, Result, Ok, Err}
 use Rattle.pts_terms.specs.Tree.{Named, pi}
 use Rattle.pts_record.specs.declared.shape.Shape.{Shape}
 use Rattle.pts_record.specs.Table.{Tables, named_at, bare_at}
@@ -8,7 +8,11 @@ use Rattle.pts_typing.specs.Typing.{Kind, not_a_sort, not_product, no_rule, no_a
 use Rattle.pts_grow.specs.declared.fault.TermFault.{TermFault}
 use Rattle.pts_grow.specs.declared.fault.TermFault.TheVariants as made
 use Rattle.pts_judge.specs.declared.judged.Judged.{Judged}
-use Rattle.pts_judge.specs.Judges.{Judges}
+use Rattle.pts_ctx.specs.System.{Specification}
+use Rattle.pts_ctx.specs.Front.{Front}
+use Rattle.pts_rules.specs.Valid.{IsValid}
+use Rattle.pts_reduce.specs.Chain.{entries_of}
+use Rattle.pts_judge.specs.Judges.{Judges, IsTyped}
 use Rattle.pts_infer.specs.declared.fault.What.{What}
 use Rattle.pts_infer.specs.declared.fault.What.TheVariants.{NotASort, NotProduct, NoRule, NoAxiom, NotConvertible}
 use Rattle.pts_infer.specs.declared.fault.Found.{Found}
@@ -118,3 +122,7 @@ ToldOf g ss misfit.Deep Deep = Unit {0}
 ToldOf g ss (misfit.Wanted f) (Flawed h) = (Shows (length ss) f.what → Shows (length ss) h.what) × (flaw_of ss h ≡ g (wanted (flaw_of ss f)))
 ToldOf g ss (misfit.Own f) (Flawed h) = (Shows (length ss) f.what → Shows (length ss) h.what) × (flaw_of ss h ≡ g (judged (flaw_of ss f)))
 ToldOf g ss e h = ⊥
+
+-- A record that is valid over every front, with a context that is empty.
+abbrev pub IsOpened : Tables → ℕ → Type 0
+IsOpened r c = (c < length r.nodes) × IsTyped r c × (entries_of r c ≡ []) × ((S : Specification) (G : Front) → IsValid S G r)

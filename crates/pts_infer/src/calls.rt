@@ -25,7 +25,7 @@ use pts_record::Record;
 use pts_rules::Meter;
 
 // How deep inferences may be nested.
-const NESTING: u32 = 4000;
+pub(crate) const NESTING: u32 = 4000;
 
 /// The judgement of a term in a context, at the cost of inference: a unit for each rule, and those of reduction and of
 /// the conversion test. The names stand for the entries of the context, the outermost first; flaws tell them.

@@ -7,6 +7,7 @@ mod abstractions;
 mod answer;
 mod applications;
 mod calls;
+mod closing;
 mod definitions;
 mod fault;
 mod fits;
@@ -19,4 +20,10 @@ mod products;
 mod reduced;
 mod show;
 mod sort_tests;
+mod terms;
 mod told;
+
+pub use answer::{FitFault, Flaw, FlawKind, InferFault, Typed};
+pub use calls::infer;
+pub use pts_reduce::{Conversion, Meter, ReduceFault, Whnf, convert, whnf};
+pub use terms::infer_term;

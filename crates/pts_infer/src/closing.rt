@@ -1,0 +1,55 @@
+// Records that end with a judgement.
+
+ghost use Rattle.std.specs.Prelude.{◌≡◌, ◌<◌, length, suc, IfOk};
+ghost use Rattle.pts_ctx.specs.System.{Specification};
+ghost use Rattle.pts_ctx.specs.Front.{Front};
+ghost use Rattle.pts_grow.specs.Keeps.{Keeps, StaysValid};
+ghost use Rattle.pts_judge.specs.Judges.{IsTyped, Judges};
+
+use pts_judge::Judged;
+use pts_record::{Form, Node, Record};
+use std::alloc::AllocError;
+
+/// Makes a judgement the last node, and answers its number.
+#[tactic(auto, using(pts_grow::proofs::Grow::keeping))]
+pub(crate) fn close(proof: &mut Record, ctx: usize, judged: Judged) -> Result<usize, AllocError>
+    requires ctx { ctx < length proof.old.nodes }
+    requires typed { IsTyped proof.old ctx }
+    requires judged { Judges proof.old ctx judged }
+    ensures last { IfOk result (λ n. suc n ≡ length proof.new.nodes) }
+    ensures judges { IfOk result (λ n. Judges proof.new ctx (record { subject = judged.subject; claim = judged.claim; node = n })) }
+    ensures keeps { Keeps proof.old proof.new }
+    ensures valid { StaysValid proof.old proof.new }
+{
+    if proof.nodes() - judged.node == 1 {
+        return Ok(judged.node);
+    }
+    repeat(proof, ctx, judged)
+}
+
+// A judgement again, as the last node.
+#[tactic(auto, using(pts_grow::proofs::Grow::pushed, pts_judge::proofs::Nodes::new_judges, crate::proofs::Conclusions::last_node))]
+fn repeat(proof: &mut Record, ctx: usize, judged: Judged) -> Result<usize, AllocError>
+    requires ctx { ctx < length proof.old.nodes }
+    requires typed { IsTyped proof.old ctx }
+    requires judged { Judges proof.old ctx judged }
+    ensures last { IfOk result (λ n. suc n ≡ length proof.new.nodes) }
+    ensures judges { IfOk result (λ n. Judges proof.new ctx (record { subject = judged.subject; claim = judged.claim; node = n })) }
+    ensures keeps { Keeps proof.old proof.new }
+    ensures valid { StaysValid proof.old proof.new }
+{
+    let _ = proof.node(ctx);
+    let node = Node {
+        form: Form::Thin,
+        ctx,
+        subject: judged.subject,
+        claim: judged.claim,
+        first: judged.node,
+        second: 0,
+        third: 0,
+    };
+    match proof.add_node(node) {
+        Ok(number) => Ok(number),
+        Err(_) => Err(AllocError),
+    }
+}
