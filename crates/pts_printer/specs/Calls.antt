@@ -1,0 +1,21 @@
+-- What parts of the printer do.
+use Rattle.std.specs.Prelude.{ℕ, List, [], ◌∷◌, ◌++◌, map}
+use Rattle.std.specs.Borrow.{Bor}
+use Rattle.pts_names.specs.Name.{Name}
+
+-- The names around the innermost.
+abbrev pub without_first : List Name → List Name
+without_first [] = []
+without_first (x ∷ L) = L
+
+-- Names that may not be chosen: those of variables, and constants.
+pub record Forbidden : Type 0 where
+  pub variables : List Name
+  pub constants : List Name
+
+abbrev pub forbidden : Forbidden → List Name
+forbidden F = F.variables ++ F.constants
+
+-- What references to texts lead to.
+abbrev pub texts : List (Bor (List ℕ)) → List (List ℕ)
+texts rs = map (λ r. r.now) rs

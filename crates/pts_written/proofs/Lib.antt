@@ -1,0 +1,15 @@
+mod Worked
+mod Written
+mod Shallow
+mod Found
+mod Numerals
+mod Chosen
+mod Over
+mod Words
+mod Lexed
+mod Characters
+mod Places
+mod ReadBack
+mod Goals
+mod Least
+mod Sorts
