@@ -9,7 +9,7 @@ use Rattle.pts_record.specs.Said.{named_told, judgement, scope_of}
 use Rattle.pts_costs.specs.Costs.{Globals, Entries}
 use Rattle.pts_costs.specs.Run.{Run, ends, fails, deep, spent}
 use Rattle.pts_costs.specs.Laws.{WithinBudget}
-use Rattle.pts_typing.specs.Typing.{Flaw, Infers, Outcome, comes, inference_nesting}
+use Rattle.pts_typing.specs.Typing.{Flaw, FitFlaw, Infers, Outcome, comes, inference_nesting}
 use Rattle.pts_typing.specs.Laws.{IsWork}
 use Rattle.pts_typing.specs.Inference.{inferred}
 use Rattle.pts_typing.proofs.Exact.{inference_within, inference_exact}
@@ -21,8 +21,12 @@ use Rattle.pts_infer.specs.declared.fault.Fault.{Fault}
 use Rattle.pts_infer.specs.declared.fault.Fault.TheVariants.{Spent, Deep, Memory, Flawed}
 use Rattle.pts_infer.specs.declared.answer.InferFault.{InferFault}
 use Rattle.pts_infer.specs.declared.answer.InferFault.TheVariants as infer
-use Rattle.pts_infer.specs.Given.{StopsWith, Stand, flaw_of}
-use Rattle.pts_infer.specs.Answered.{Refused, ShownAs}
+use Rattle.pts_infer.specs.declared.fault.Misfit.{Misfit}
+use Rattle.pts_infer.specs.declared.fault.Misfit.TheVariants as misfit
+use Rattle.pts_infer.specs.declared.answer.FitFault.{FitFault}
+use Rattle.pts_infer.specs.declared.answer.FitFault.TheVariants as fit
+use Rattle.pts_infer.specs.Given.{StopsWith, MisfitsWith, Stand, MisfitStands, flaw_of}
+use Rattle.pts_infer.specs.Answered.{Refused, ShownAs, Unfit, ShownMisfit}
 
 -- The terms of a fault stand.
 pub fault_stands : {A : Type 0} (ss : List Shape) (e : Fault) (k : ℕ) (r : Run Flaw A) → StopsWith ss e k r → Stand (length ss) e
@@ -60,3 +64,34 @@ inference_judged S G L a n c t b k j g l m p h r =
     (named_at n.shapes j.claim, w, (h.2.0, h.2.1 ∙ ap (λ m. judgement c (scope_of m) (named_at n.shapes j.subject) (named_at n.shapes j.claim)) x ∙ ap (λ u. judgement c (scope_of (named_told a c)) u (named_at n.shapes j.claim)) (ap (named_at n.shapes) p ∙ y)))
 
 pub ruleset inferences = (fault_stands, inference_refused, inference_judged)
+
+-- The same of fits.
+pub misfit_stands : (ss : List Shape) (e : Misfit) (k : ℕ) (r : Run FitFlaw (Unit {0})) → MisfitsWith ss e k r → MisfitStands (length ss) e
+misfit_stands ss misfit.Memory k r h = tt
+misfit_stands ss misfit.Spent k r h = tt
+misfit_stands ss misfit.Deep k r h = tt
+misfit_stands ss (misfit.Wanted f) k r h = h.0
+misfit_stands ss (misfit.Own f) k r h = h.0
+
+pub unfit_as : (costs : Outcome FitFlaw (Unit {0}) → ℕ → Type 0) (b : ℕ) (r : Run FitFlaw (Unit {0})) (ss : List Shape) (xs : List Name) (e : Misfit) (h : FitFault) (k : ℕ) → IsWork costs b r → ShownMisfit ss xs e h → MisfitsWith ss e k r → Unfit xs costs h b k
+unfit_as costs b r ss xs e fit.Memory k w t s = tt
+unfit_as costs b r ss xs misfit.Spent fit.Spent k w t s = (subst (IsWork costs b) s.0 w, s.1)
+unfit_as costs b r ss xs misfit.Deep fit.Deep k w t s = subst (IsWork costs b) s w
+unfit_as costs b r ss xs (misfit.Wanted f) (fit.Wanted h) k w t s = (flaw_of ss f, t, subst (IsWork costs b) s.1 w)
+unfit_as costs b r ss xs (misfit.Own f) (fit.Judged h) k w t s = (flaw_of ss f, t, subst (IsWork costs b) s.1 w)
+unfit_as costs b r ss xs misfit.Spent fit.Deep k w t s = absurd t
+unfit_as costs b r ss xs misfit.Spent (fit.Wanted h) k w t s = absurd t
+unfit_as costs b r ss xs misfit.Spent (fit.Judged h) k w t s = absurd t
+unfit_as costs b r ss xs misfit.Deep fit.Spent k w t s = absurd t
+unfit_as costs b r ss xs misfit.Deep (fit.Wanted h) k w t s = absurd t
+unfit_as costs b r ss xs misfit.Deep (fit.Judged h) k w t s = absurd t
+unfit_as costs b r ss xs misfit.Memory fit.Spent k w t s = absurd t
+unfit_as costs b r ss xs misfit.Memory fit.Deep k w t s = absurd t
+unfit_as costs b r ss xs misfit.Memory (fit.Wanted h) k w t s = absurd t
+unfit_as costs b r ss xs misfit.Memory (fit.Judged h) k w t s = absurd t
+unfit_as costs b r ss xs (misfit.Wanted f) fit.Spent k w t s = absurd t
+unfit_as costs b r ss xs (misfit.Wanted f) fit.Deep k w t s = absurd t
+unfit_as costs b r ss xs (misfit.Wanted f) (fit.Judged h) k w t s = absurd t
+unfit_as costs b r ss xs (misfit.Own f) fit.Spent k w t s = absurd t
+unfit_as costs b r ss xs (misfit.Own f) fit.Deep k w t s = absurd t
+unfit_as costs b r ss xs (misfit.Own f) (fit.Wanted h) k w t s = absurd t

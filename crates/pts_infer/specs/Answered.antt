@@ -21,7 +21,9 @@ use Rattle.pts_infer.specs.declared.answer.FitFault.{FitFault}
 use Rattle.pts_infer.specs.declared.answer.FitFault.TheVariants as fit
 use Rattle.pts_infer.specs.declared.fault.Fault.{Fault}
 use Rattle.pts_infer.specs.declared.fault.Fault.TheVariants.{Spent, Deep, Memory, Flawed}
-use Rattle.pts_infer.specs.Given.{Shows, flaw_of}
+use Rattle.pts_infer.specs.declared.fault.Misfit.{Misfit}
+use Rattle.pts_infer.specs.declared.fault.Misfit.TheVariants as misfit
+use Rattle.pts_infer.specs.Given.{flaw_of}
 
 -- The flaw that an answer tells.
 abbrev pub kind_seen : FlawKind → Kind
@@ -77,3 +79,19 @@ ShownAs ss xs Spent infer.Spent = Unit {0}
 ShownAs ss xs Deep infer.Deep = Unit {0}
 ShownAs ss xs (Flawed f) (infer.Flaw h) = flaw_seen h ≡ behind xs (flaw_of ss f)
 ShownAs ss xs e h = ⊥
+
+-- The same of a fault of inference as one of the judged term, and of a fault of a fit.
+abbrev pub ShownJudged : List Shape → List Name → Fault → FitFault → Type 0
+ShownJudged ss xs e fit.Memory = Unit {0}
+ShownJudged ss xs Spent fit.Spent = Unit {0}
+ShownJudged ss xs Deep fit.Deep = Unit {0}
+ShownJudged ss xs (Flawed f) (fit.Judged h) = flaw_seen h ≡ behind xs (flaw_of ss f)
+ShownJudged ss xs e h = ⊥
+
+abbrev pub ShownMisfit : List Shape → List Name → Misfit → FitFault → Type 0
+ShownMisfit ss xs e fit.Memory = Unit {0}
+ShownMisfit ss xs misfit.Spent fit.Spent = Unit {0}
+ShownMisfit ss xs misfit.Deep fit.Deep = Unit {0}
+ShownMisfit ss xs (misfit.Wanted f) (fit.Wanted h) = flaw_seen h ≡ behind xs (flaw_of ss f)
+ShownMisfit ss xs (misfit.Own f) (fit.Judged h) = flaw_seen h ≡ behind xs (flaw_of ss f)
+ShownMisfit ss xs e h = ⊥

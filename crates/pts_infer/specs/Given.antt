@@ -1,5 +1,5 @@
 -- What an inner call answered, against the work that it stands for.
-use Rattle.std.specs.Prelude.{◌≡◌, ◌<◌, ℕ, List, [], reverse, length, Result, Ok, Err}
+use Rattle.std.specs.Prelude.{◌≡◌, ◌<◌, ℕ, List, [], reverse, length, true, false, Result, Ok, Err}
 use Rattle.pts_terms.specs.Tree.{Named, pi}
 use Rattle.pts_record.specs.declared.shape.Shape.{Shape}
 use Rattle.pts_record.specs.Table.{Tables, named_at, bare_at}
@@ -8,6 +8,7 @@ use Rattle.pts_typing.specs.Typing.{Kind, not_a_sort, not_product, no_rule, no_a
 use Rattle.pts_grow.specs.declared.fault.TermFault.{TermFault}
 use Rattle.pts_grow.specs.declared.fault.TermFault.TheVariants as made
 use Rattle.pts_judge.specs.declared.judged.Judged.{Judged}
+use Rattle.pts_terms.specs.Limits.{within}
 use Rattle.pts_ctx.specs.System.{Specification}
 use Rattle.pts_ctx.specs.Front.{Front}
 use Rattle.pts_rules.specs.Valid.{IsValid}
@@ -38,6 +39,11 @@ Shows n (NotConvertible place have want) = (have < n) × (want < n)
 abbrev pub Stand : ℕ → Fault → Type 0
 Stand n (Flawed f) = Shows n f.what
 Stand n _ = Unit {0}
+
+abbrev pub MisfitStands : ℕ → Misfit → Type 0
+MisfitStands n (misfit.Wanted f) = Shows n f.what
+MisfitStands n (misfit.Own f) = Shows n f.what
+MisfitStands n _ = Unit {0}
 
 -- The flaw that was found, by the record's terms.
 abbrev pub kind_of : List Shape → What → Kind
@@ -126,3 +132,12 @@ ToldOf g ss e h = ⊥
 -- A record that is valid over every front, with a context that is empty.
 abbrev pub IsOpened : Tables → ℕ → Type 0
 IsOpened r c = (c < length r.nodes) × IsTyped r c × (entries_of r c ≡ []) × ((S : Specification) (G : Front) → IsValid S G r)
+
+-- Why two terms are not both made: one of them is beyond the limits.
+abbrev pub IsTooLarge : TermFault → Type 0
+IsTooLarge made.TooLarge = Unit {0}
+IsTooLarge made.Memory = ⊥
+
+pub data EitherLarge (t u : Named) : Type 0 where
+  first_large : within t ≡ false → EitherLarge t u
+  second_large : within t ≡ true → within u ≡ false → EitherLarge t u

@@ -2,6 +2,7 @@
 
 ghost use Rattle.std.specs.Prelude.{◌≡◌};
 ghost use Rattle.pts_infer.specs.declared.answer.InferFault.TheVariants.{Memory as NoMemory};
+ghost use Rattle.pts_infer.specs.declared.answer.FitFault.TheVariants.{Memory as NoRoom};
 
 use pts_names::{List, Name};
 use pts_record::Record;
@@ -70,6 +71,14 @@ pub enum FitFault {
     Deep,
     /// There is no memory.
     Memory,
+}
+
+impl From<AllocError> for FitFault {
+    ghost from_gives = { λ _ e. e ≡ NoRoom };
+
+    fn from(_: AllocError) -> Self {
+        FitFault::Memory
+    }
 }
 
 /// A type, and the record whose last node is the judgement that a term has it, in the empty context.

@@ -26,4 +26,4 @@ mod told;
 pub use answer::{FitFault, Flaw, FlawKind, InferFault, Typed};
 pub use calls::infer;
 pub use pts_reduce::{Conversion, Meter, ReduceFault, Whnf, convert, whnf};
-pub use terms::infer_term;
+pub use terms::{infer_fitted, infer_term, infer_type};

@@ -1,11 +1,11 @@
 // Flaws, as they are answered: by terms in place of numbers.
 
 ghost use Rattle.std.specs.Prelude.{◌≡◌, ◌++◌, IfOk, length, reverse};
-ghost use Rattle.pts_infer.specs.Given.{Shows, Stand, flaw_of, kind_of};
-ghost use Rattle.pts_infer.specs.Answered.{kind_seen, flaw_seen, behind, ShownAs};
+ghost use Rattle.pts_infer.specs.Given.{Shows, Stand, MisfitStands, flaw_of, kind_of};
+ghost use Rattle.pts_infer.specs.Answered.{kind_seen, flaw_seen, behind, ShownAs, ShownJudged, ShownMisfit};
 
-use crate::answer::{Flaw, FlawKind, InferFault};
-use crate::fault::{Fault, Found, What};
+use crate::answer::{FitFault, Flaw, FlawKind, InferFault};
+use crate::fault::{Fault, Found, Misfit, What};
 use pts_names::{List, Name};
 use pts_record::Record;
 use std::alloc::{AllocError, Global};
@@ -97,5 +97,57 @@ pub(crate) fn show_fault(proof: &Record, names: &[Name], fault: Fault) -> InferF
         Fault::Spent => InferFault::Spent,
         Fault::Deep => InferFault::Deep,
         Fault::Memory => InferFault::Memory,
+    }
+}
+
+/// A fault of inference, as one of the judged term.
+pub(crate) fn show_judged(proof: &Record, names: &[Name], fault: Fault) -> FitFault
+    requires { Stand (length proof.now.shapes) fault }
+    ensures { ShownJudged proof.now.shapes names.now fault result }
+{
+    match fault {
+        Fault::Flawed(found) => match show_flaw(proof, names, found.into_inner()) {
+            Ok(flaw) => FitFault::Judged(flaw),
+            Err(_) => FitFault::Memory,
+        },
+        Fault::Spent => FitFault::Spent,
+        Fault::Deep => FitFault::Deep,
+        Fault::Memory => FitFault::Memory,
+    }
+}
+
+// A flaw of the wanted type.
+fn show_wanted(proof: &Record, names: &[Name], found: Found) -> FitFault
+    requires { Shows (length proof.now.shapes) found.what }
+    ensures { ShownMisfit proof.now.shapes names.now (Misfit.Wanted found) result }
+{
+    match show_flaw(proof, names, found) {
+        Ok(flaw) => FitFault::Wanted(flaw),
+        Err(_) => FitFault::Memory,
+    }
+}
+
+// A flaw of the judged term.
+fn show_own(proof: &Record, names: &[Name], found: Found) -> FitFault
+    requires { Shows (length proof.now.shapes) found.what }
+    ensures { ShownMisfit proof.now.shapes names.now (Misfit.Own found) result }
+{
+    match show_flaw(proof, names, found) {
+        Ok(flaw) => FitFault::Judged(flaw),
+        Err(_) => FitFault::Memory,
+    }
+}
+
+/// A fault of a fit.
+pub(crate) fn show_misfit(proof: &Record, names: &[Name], misfit: Misfit) -> FitFault
+    requires { MisfitStands (length proof.now.shapes) misfit }
+    ensures { ShownMisfit proof.now.shapes names.now misfit result }
+{
+    match misfit {
+        Misfit::Wanted(found) => show_wanted(proof, names, found.into_inner()),
+        Misfit::Own(found) => show_own(proof, names, found.into_inner()),
+        Misfit::Spent => FitFault::Spent,
+        Misfit::Deep => FitFault::Deep,
+        Misfit::Memory => FitFault::Memory,
     }
 }
