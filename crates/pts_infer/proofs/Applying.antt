@@ -6,7 +6,7 @@ use Rattle.pts_ctx.specs.System.{Specification}
 use Rattle.pts_record.specs.declared.shape.Shape.{Shape}
 use Rattle.pts_record.specs.Table.{Tables, named_at}
 use Rattle.pts_costs.specs.Costs.{Globals, Entries}
-use Rattle.pts_costs.specs.Run.{ends, fails, deep, spent}
+use Rattle.pts_costs.specs.Run.{ends}
 use Rattle.pts_typing.specs.Typing.{into, of_argument, made}
 use Rattle.pts_typing.specs.Inference.{gives, Typer, fitted, product_found, argument_fitted, argument_inferred, function_typed, application}
 use Rattle.pts_typing.proofs.ByParts.{application_is, function_typed_is, argument_inferred_is, argument_fitted_is}
@@ -63,6 +63,9 @@ module _ (S : Specification) (G : Globals) (infer : Typer) where
       argument_fitted_goes_on S G infer (entries_of a c) (named_at a.shapes x) (named_at a.shapes d, named_at a.shapes e) (named_at a.shapes t) tt k j r ∙ rw (q, u) refl
 
 pub ruleset function = (function_stops, function_next)
+
 pub ruleset typed = (typed_stops, typed_next)
+
 pub ruleset argument = (argument_stops, argument_next)
+
 pub ruleset fitted_argument = (fit_stops, fit_next)

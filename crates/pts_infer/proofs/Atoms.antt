@@ -1,8 +1,8 @@
 -- Leaves, and the forms of terms.
-use Rattle.std.proofs.Common.{◌≡◌, ℕ, ◌<◌, ◌≤◌, suc, refl, sym, ap, ◌∙◌, subst, List, length, Bool, Option, Some, None, true, false, is_some, ◌&&◌}
+use Rattle.std.proofs.Common.{◌≡◌, ℕ, ◌≤◌, suc, refl, sym, ap, ◌∙◌, List, Bool, Option, Some, None, true, false, ◌&&◌}
 use Rattle.std.specs.Option.{option_map, option_and_then}
 use Rattle.pts_names.specs.Name.{Name}
-use Rattle.pts_terms.specs.Tree.{Named, Tree, bare, sort, lift}
+use Rattle.pts_terms.specs.Tree.{Named, sort, lift}
 use Rattle.pts_terms.specs.Limits.{within, depth_of, size_of}
 use Rattle.pts_terms.proofs.Indices.{lift_depth, lift_size}
 use Rattle.pts_ctx.specs.Front.{Global, find, Local, assumed, defined, unknown, entry_at}
@@ -15,7 +15,6 @@ use Rattle.pts_typing.specs.Typing.{type_at}
 use Rattle.pts_typing.specs.Inference.{looked_up, type_of_global}
 use Rattle.pts_typing.proofs.Ends.{type_looked_up, nothing_looked_up}
 use Rattle.pts_grow.proofs.Lifted.{stands_within}
-use Rattle.pts_rules.specs.Parts.{sort_in}
 use Rattle.pts_judge.specs.Judges.{IsSort, type_in}
 use Rattle.pts_judge.proofs.Plain.{plain_sort}
 

@@ -103,8 +103,13 @@ module _ (S : Specification) (G : Globals) (infer : Typer) (x : Name) where
       body_sorted_goes_on S G infer (entries_of a c) x (named_at a.shapes d.subject) s (named_at a.shapes t) u k j (ap (λ L. sorted S G infer L (named_at a.shapes t) k) (sym (assumed_entries a c d n i)) ∙ e) ∙ rw (q, v) refl
 
 pub ruleset domain = (domain_stops, domain_next)
+
 pub ruleset opened = (product_opened, abstraction_opened)
+
 pub ruleset body = (body_stops, body_next)
+
 pub ruleset abstracted = (abstraction_stops, abstraction_next)
+
 pub ruleset inside = (inside_stops, inside_next)
+
 pub ruleset sorted_body = (sorted_stops, sorted_next)

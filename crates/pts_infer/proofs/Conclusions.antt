@@ -1,8 +1,8 @@
 -- Records that are opened for a term, and that end with its judgement.
-use Rattle.std.proofs.Common.{◌≡◌, ℕ, ◌<◌, ◌+◌, suc, pred, refl, sym, ap, ◌∙◌, subst, List, [], ◌∷◌, ◌++◌, length, map, true, false, Some, None, ◌&&◌, arith, Result, Ok, Err, OnOk, IfErr}
+use Rattle.std.proofs.Common.{◌≡◌, ℕ, ◌<◌, ◌+◌, suc, pred, refl, sym, ap, ◌∙◌, subst, List, [], ◌∷◌, ◌++◌, length, true, false, Some, None, arith, Result, Ok, Err, OnOk, IfErr}
 use Rattle.std.proofs.lemmas.List.{length-append}
 use Rattle.pts_names.specs.Name.{Name}
-use Rattle.pts_terms.specs.Tree.{Named, Bare, bare, sort, same_term}
+use Rattle.pts_terms.specs.Tree.{Named, bare, sort}
 use Rattle.pts_terms.specs.Limits.{within}
 use Rattle.pts_terms.proofs.Same.{same_term_self}
 use Rattle.pts_ctx.specs.System.{Specification}
@@ -13,31 +13,29 @@ use Rattle.pts_terms.specs.Seen.{named}
 use Rattle.pts_record.specs.declared.shape.Form.TheVariants.{Thin}
 use Rattle.pts_record.specs.declared.shape.Node.{Node}
 use Rattle.pts_record.specs.Table.{Tables, named_at, bare_at}
-use Rattle.pts_record.specs.Said.{named_told, told, scope_of}
+use Rattle.pts_record.specs.Said.{told}
 use Rattle.pts_rules.specs.Valid.{IsValid, first_fault, last_said, concludes_as}
 use Rattle.pts_costs.specs.Costs.{Globals}
 use Rattle.pts_costs.specs.Run.{Run, ends, fails, deep, spent}
 use Rattle.pts_costs.specs.Laws.{WithinBudget, AboveBudget}
-use Rattle.pts_typing.specs.Typing.{Flaw, FitFlaw, Infers, Sorts, Fits, wanted, judged, moved, Stop, by_flaw, Outcome, comes, stops, by_limits, inference_nesting}
+use Rattle.pts_typing.specs.Typing.{Flaw, FitFlaw, Infers, Sorts, Fits, wanted, judged, by_flaw, Outcome, comes, stops, by_limits, inference_nesting}
 use Rattle.pts_typing.specs.Laws.{IsWork}
-use Rattle.pts_typing.specs.Inference.{inferred, sorted, fitted}
-use Rattle.pts_typing.proofs.Exact.{inference_exact, sorts_exact, fit_exact, inference_once}
+use Rattle.pts_typing.specs.Inference.{inferred, sorted}
+use Rattle.pts_typing.proofs.Exact.{inference_exact, sorts_exact, inference_once}
 use Rattle.pts_grow.specs.Keeps.{Keeps, StaysValid}
 use Rattle.pts_grow.proofs.Grow.{with_node, node_stays}
 use Rattle.pts_judge.specs.declared.judged.Judged.{Judged}
-use Rattle.pts_judge.specs.Judges.{Judges, IsTyped, IsEmpty}
-use Rattle.pts_judge.proofs.Nodes.{judging, judged_bare, still_typed}
+use Rattle.pts_judge.specs.Judges.{Judges}
+use Rattle.pts_judge.proofs.Nodes.{judged_bare, still_typed}
 use Rattle.pts_judge.proofs.Plain.{plain, plain_sort}
 use Rattle.pts_reduce.specs.Chain.{entries_of}
 use Rattle.pts_infer.specs.declared.fault.Fault.{Fault}
 use Rattle.pts_infer.specs.declared.fault.Fault.TheVariants.{Spent, Deep, Memory, Flawed}
 use Rattle.pts_infer.specs.declared.answer.FitFault.{FitFault}
 use Rattle.pts_infer.specs.declared.answer.FitFault.TheVariants as fit
-use Rattle.pts_infer.specs.declared.answer.InferFault.{InferFault}
-use Rattle.pts_infer.specs.Given.{StopsWith, MisfitsWith, IsOpened, EitherLarge, first_large, second_large, flaw_of}
-use Rattle.pts_infer.specs.Answered.{Refused, Unfit, ShownAs, ShownJudged, OfTerm, term_too_large, term_inferred, OfType, type_too_large, type_sorted, OfFitted, body_too_large, wanted_too_large, body_stops, body_fitted}
+use Rattle.pts_infer.specs.Given.{StopsWith, IsOpened, EitherLarge, first_large, second_large, flaw_of}
+use Rattle.pts_infer.specs.Answered.{Unfit, ShownJudged, OfTerm, term_too_large, term_inferred, OfType, type_too_large, type_sorted, OfFitted, body_too_large, wanted_too_large, body_stops, body_fitted}
 use Rattle.pts_infer.proofs.Runs.{entries_stay}
-use Rattle.pts_infer.proofs.Refusals.{refused_as}
 
 -- A node that was added is the last.
 pub last_node : (r q : Tables) (n : Node) (k : ℕ) → q ≡ with_node r n → k ≡ length r.nodes → suc k ≡ length q.nodes
@@ -102,6 +100,7 @@ type_exact S G A b w = type_work (sorted S G (inferred S G 4000) [] A b) (sorts_
   above : AboveBudget (Sorts S G 4000 [] A) b → (o : Outcome Flaw ℕ) (n : ℕ) → OfType S G A o n → b < n
   above h _ _ (type_too_large p) = let x : true ≡ false = sym w ∙ p in absurd (cc x)
   above h o n (type_sorted p c) = h o n c
+
   type_work : (r : Run Flaw ℕ) → IsWork (Sorts S G 4000 [] A) b r → IsWork (OfType S G A) b r
   type_work (ends T k) (n, c, e) = (n, type_sorted w c, e)
   type_work (fails f k) (n, c, e) = (n, type_sorted w c, e)

@@ -99,8 +99,13 @@ module _ (S : Specification) (G : Globals) (infer : Typer) (x : Name) where
       definition_type_goes_on S G infer (entries_of a c) x (named_at a.shapes d.subject) (named_at a.shapes d.claim) (named_at a.shapes t) u k j o (ap (λ L. sorted S G infer L (named_at a.shapes t) k) (sym (defined_entries a c d n i)) ∙ e) ∙ rw (q, r, v) refl
 
 pub ruleset value = (value_stops, value_next)
+
 pub ruleset fitted_value = (fit_stops, fit_next)
+
 pub ruleset opened = (definition_opened)
+
 pub ruleset inside = (inside_stops, inside_next)
+
 pub ruleset at_once = (type_now)
+
 pub ruleset sorted_body = (sorted_stops, sorted_next)

@@ -1,12 +1,11 @@
 -- The products that types of functions are.
 use Rattle.std.proofs.Common.{◌≡◌, ℕ, ◌<◌, refl, sym, ap, ◌∙◌, subst, List, length, Some, None}
-use Rattle.pts_names.specs.Name.{Name}
-use Rattle.pts_terms.specs.Tree.{Named, Bare, bare, pi, sort, const, var, app, named_lam, named_pi, named_let}
+use Rattle.pts_terms.specs.Tree.{Named, bare, pi, sort, const, var, app, named_lam, named_pi, named_let}
 use Rattle.pts_ctx.specs.System.{Specification}
 use Rattle.pts_record.specs.declared.shape.Shape.{Shape}
 use Rattle.pts_record.specs.Table.{Tables, named_at, bare_at}
 use Rattle.pts_costs.specs.Costs.{Globals, Entries}
-use Rattle.pts_costs.specs.Run.{Run, ends, fails, deep, spent}
+use Rattle.pts_costs.specs.Run.{Run, ends, fails}
 use Rattle.pts_costs.specs.Work.{reduced}
 use Rattle.pts_typing.specs.Typing.{Flaw, here, not_product, as_product}
 use Rattle.pts_typing.specs.Inference.{Typer, sorted, product_found}

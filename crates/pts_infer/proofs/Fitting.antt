@@ -1,15 +1,14 @@
 -- Fits.
-use Rattle.std.proofs.Common.{◌≡◌, ℕ, ◌<◌, suc, refl, sym, ap, ◌∙◌, subst, List, length, Bool, true, false, Result}
+use Rattle.std.proofs.Common.{◌≡◌, ℕ, ◌<◌, suc, refl, sym, ◌∙◌, subst, List, length, Bool, true, false}
 use Rattle.pts_terms.specs.Tree.{Named, bare, same_term}
 use Rattle.pts_ctx.specs.System.{Specification}
 use Rattle.pts_record.specs.declared.shape.Shape.{Shape}
 use Rattle.pts_record.specs.Table.{Tables, named_at, bare_at}
 use Rattle.pts_costs.specs.Costs.{Globals, Entries}
-use Rattle.pts_costs.specs.Run.{ends, spent, and_then, turned}
-use Rattle.pts_typing.specs.Typing.{wanted}
+use Rattle.pts_costs.specs.Run.{ends}
 use Rattle.pts_typing.specs.Inference.{Typer, sorted, fitted, fit_tested, types_compared}
 use Rattle.pts_typing.proofs.ByParts.{fit_tested_is}
-use Rattle.pts_typing.proofs.Tests.{fitted_unpaid, fitted_equal, fitted_by_test, fit_tested_goes_on}
+use Rattle.pts_typing.proofs.Tests.{fitted_equal, fitted_by_test, fit_tested_goes_on}
 use Rattle.pts_terms.proofs.Same.{same_term_eq}
 use Rattle.pts_judge.proofs.Plain.{plain}
 use Rattle.pts_grow.specs.Keeps.{Keeps}
@@ -17,7 +16,7 @@ use Rattle.pts_grow.proofs.Grow.{tree_stays}
 use Rattle.pts_reduce.specs.Chain.{entries_of}
 use Rattle.pts_infer.specs.declared.fault.Fault.{Fault}
 use Rattle.pts_infer.specs.declared.fault.Misfit.{Misfit}
-use Rattle.pts_infer.specs.Given.{StopsWith, MisfitsWith, ToldWanted, Fits}
+use Rattle.pts_infer.specs.Given.{StopsWith, MisfitsWith, ToldWanted}
 use Rattle.pts_infer.proofs.Outwards.{stopped_wanted}
 use Rattle.pts_infer.proofs.Runs.{entries_stay}
 

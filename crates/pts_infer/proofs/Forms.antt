@@ -1,11 +1,10 @@
 -- What the answers of reduction and of the conversion test say of the work on a budget.
-use Rattle.std.proofs.Common.{◌≡◌, ℕ, ◌<◌, ◌+◌, refl, sym, ap, ◌∙◌, subst, List, length, arith}
+use Rattle.std.proofs.Common.{◌≡◌, ℕ, ◌<◌, refl, sym, ap, ◌∙◌, subst, List, length, arith}
 use Rattle.pts_terms.specs.Tree.{Named}
-use Rattle.pts_record.specs.declared.shape.Shape.{Shape}
 use Rattle.pts_record.specs.Table.{Tables, named_at}
 use Rattle.pts_costs.specs.Costs.{Globals, Entries, Reduct, form, too_large, Reduces, Verdict, yes_, no_, beyond, Tests, nesting}
 use Rattle.pts_costs.specs.Run.{Run, ends, fails, deep, spent}
-use Rattle.pts_costs.specs.Work.{reduced, tested, Answer, Difference}
+use Rattle.pts_costs.specs.Work.{reduced, tested, Answer}
 use Rattle.pts_costs.specs.Laws.{WithinBudget, AboveBudget, IsReduction, IsTest}
 use Rattle.pts_costs.proofs.Reached.{reduction_reached, test_reached}
 use Rattle.pts_costs.proofs.Exact.{reduction_exact, test_exact}

@@ -1,21 +1,20 @@
 -- Flaws that are told from the whole, and what work comes to that stops with them.
-use Rattle.std.proofs.Common.{◌≡◌, ℕ, ◌<◌, refl, sym, ap, ◌∙◌, subst, List, [], ◌∷◌, ◌++◌, length, reverse, Result, Ok, Err}
+use Rattle.std.proofs.Common.{◌≡◌, ℕ, refl, sym, ap, ◌∙◌, subst, List, [], ◌∷◌, ◌++◌, length, reverse, Result, Ok, Err}
 use Rattle.std.specs.Result.{IsErr, IsErrAnd}
 use Rattle.std.proofs.lemmas.List.{reverse-append}
 use Rattle.pts_names.specs.Name.{Name}
 use Rattle.pts_record.specs.declared.shape.Shape.{Shape}
 use Rattle.pts_record.specs.Table.{named_at}
-use Rattle.pts_costs.specs.Run.{Run, ends, fails, deep, spent, turned, and_then}
-use Rattle.pts_typing.specs.Typing.{Kind, Flaw, FitFlaw, here, into, under, unsorted, wanted, judged, not_a_sort, not_product, of_argument, of_definition}
+use Rattle.pts_costs.specs.Run.{Run, fails, turned, and_then}
+use Rattle.pts_typing.specs.Typing.{Flaw, FitFlaw, here, into, under, unsorted, wanted, judged, not_a_sort, not_product, of_argument, of_definition}
 use Rattle.pts_typing.proofs.ByParts.{part_fails, part_deep, part_spent, turned_fails, turned_deep, turned_spent}
 use Rattle.pts_infer.specs.declared.fault.What.{What}
-use Rattle.pts_infer.specs.declared.fault.What.TheVariants.{NotASort, NotProduct}
 use Rattle.pts_infer.specs.declared.fault.Found.{Found}
 use Rattle.pts_infer.specs.declared.fault.Fault.{Fault}
 use Rattle.pts_infer.specs.declared.fault.Fault.TheVariants.{Spent, Deep, Memory, Flawed}
 use Rattle.pts_infer.specs.declared.fault.Misfit.{Misfit}
 use Rattle.pts_infer.specs.declared.fault.Misfit.TheVariants as misfit
-use Rattle.pts_infer.specs.Given.{Shows, kind_of, flaw_of, FoundAs, StopsWith, MisfitsWith, Gives, Fits, ToldAs, ToldWanted, ToldOf}
+use Rattle.pts_infer.specs.Given.{Shows, kind_of, flaw_of, FoundAs, StopsWith, MisfitsWith, Gives, ToldAs, ToldWanted, ToldOf}
 
 more : {A : Type 0} (xs : List A) (x : A) → reverse (xs ++ x ∷ []) ≡ x ∷ reverse xs
 more xs x = reverse-append xs (x ∷ [])

@@ -1,5 +1,5 @@
 -- Units that are all paid.
-use Rattle.std.proofs.Common.{◌≡◌, ◌-◌, ◌≤◌, nat_le, refl, arith}
+use Rattle.std.proofs.Common.{◌≡◌, ◌-◌, ◌≤◌, refl, arith}
 use Rattle.std.proofs.lemmas.Bool.Decides.{nat_tests}
 use Rattle.pts_rules.specs.Meter.{Units, left, charged}
 use Rattle.pts_reduce.specs.Given.{Later}

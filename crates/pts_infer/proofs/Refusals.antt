@@ -1,22 +1,25 @@
 -- What the public calls answer.
-use Rattle.std.proofs.Common.{◌≡◌, ℕ, ◌<◌, ap, ◌∙◌, subst, List, length}
+use Rattle.std.proofs.Common.{◌≡◌, ℕ, ◌<◌, refl, sym, ap, ◌∙◌, subst, List, length, true}
 use Rattle.pts_names.specs.Name.{Name}
 use Rattle.pts_terms.specs.Tree.{Named, sort}
 use Rattle.pts_ctx.specs.System.{Specification}
 use Rattle.pts_record.specs.declared.shape.Shape.{Shape}
 use Rattle.pts_record.specs.Table.{Tables, named_at}
-use Rattle.pts_record.specs.Said.{named_told, judgement, scope_of}
+use Rattle.pts_record.specs.declared.shape.Form.{Form}
+use Rattle.pts_record.specs.declared.shape.Form.TheVariants.{Empty, Assume, Define, Bare as BareForm, Same, Left, Right, CongApp, CongLam, CongPi}
+use Rattle.pts_record.specs.Said.{Said, Line, named_told, judgement, scope_of, say_as, is_judgement, has_terms, place_of, subject_of, claim_of}
 use Rattle.pts_costs.specs.Costs.{Globals, Entries}
-use Rattle.pts_costs.specs.Run.{Run, ends, fails, deep, spent}
+use Rattle.pts_costs.specs.Run.{Run, ends}
 use Rattle.pts_costs.specs.Laws.{WithinBudget}
-use Rattle.pts_typing.specs.Typing.{Flaw, FitFlaw, Infers, Outcome, comes, inference_nesting}
+use Rattle.pts_typing.specs.Typing.{Flaw, FitFlaw, SortTest, Fits, Infers, Outcome, comes, inference_nesting}
 use Rattle.pts_typing.specs.Laws.{IsWork}
-use Rattle.pts_typing.specs.Inference.{inferred}
-use Rattle.pts_typing.proofs.Exact.{inference_within, inference_exact}
+use Rattle.pts_typing.specs.Inference.{inferred, sort_tested, fitted}
+use Rattle.pts_typing.proofs.Exact.{inference_within, inference_exact, sort_test_within, sort_test_exact, fit_within, fit_exact}
 use Rattle.pts_grow.specs.Keeps.{Keeps, IsNode}
 use Rattle.pts_grow.proofs.Grow.{tree_stays, told_stays}
 use Rattle.pts_judge.specs.declared.judged.Judged.{Judged}
 use Rattle.pts_judge.specs.Judges.{Judges}
+use Rattle.pts_reduce.specs.Chain.{entries_of}
 use Rattle.pts_infer.specs.declared.fault.Fault.{Fault}
 use Rattle.pts_infer.specs.declared.fault.Fault.TheVariants.{Spent, Deep, Memory, Flawed}
 use Rattle.pts_infer.specs.declared.answer.InferFault.{InferFault}
@@ -95,3 +98,44 @@ unfit_as costs b r ss xs (misfit.Wanted f) (fit.Judged h) k w t s = absurd t
 unfit_as costs b r ss xs (misfit.Own f) fit.Spent k w t s = absurd t
 unfit_as costs b r ss xs (misfit.Own f) fit.Deep k w t s = absurd t
 unfit_as costs b r ss xs (misfit.Own f) (fit.Wanted h) k w t s = absurd t
+
+-- What a judgement says, by the line that it is.
+pub judgement_told : {B : Type 0} (m : Said B) (f : Form) (k : ℕ) (l : Line B) (c p : Said B) → m ≡ say_as f k l c p → is_judgement m ≡ true → (m ≡ judgement l.ctx (scope_of c) l.subject l.claim) × (has_terms f ≡ true)
+judgement_told m Empty k l c p e h = absurd (cc (sym (ap is_judgement e) ∙ h))
+judgement_told m Assume k l c p e h = absurd (cc (sym (ap is_judgement e) ∙ h))
+judgement_told m Define k l c p e h = absurd (cc (sym (ap is_judgement e) ∙ h))
+judgement_told m BareForm k l c p e h = absurd (cc (sym (ap is_judgement e) ∙ h))
+judgement_told m Same k l c p e h = absurd (cc (sym (ap is_judgement e) ∙ h))
+judgement_told m Left k l c p e h = absurd (cc (sym (ap is_judgement e) ∙ h))
+judgement_told m Right k l c p e h = absurd (cc (sym (ap is_judgement e) ∙ h))
+judgement_told m CongApp k l c p e h = absurd (cc (sym (ap is_judgement e) ∙ h))
+judgement_told m CongLam k l c p e h = absurd (cc (sym (ap is_judgement e) ∙ h))
+judgement_told m CongPi k l c p e h = absurd (cc (sym (ap is_judgement e) ∙ h))
+judgement_told m _ k l c p e h = (e, refl)
+
+-- The same of the node with the number of a judgement.
+pub of_judgement : (a : Tables) (c node : ℕ) (j : Judged) → Judges a c j → j.node ≡ node → named_told a node ≡ judgement c (scope_of (named_told a c)) (named_at a.shapes j.subject) (named_at a.shapes j.claim)
+of_judgement a c node j h e = ap (named_told a) (sym e) ∙ h.2.1
+
+module _ (S : Specification) (G : Globals) (a n : Tables) (c node : ℕ) (j : Judged) (q : Judges a c j) (p : j.node ≡ node) where
+  pub test_judged : (i : Judged) (s b k : ℕ) → Keeps a n → c < length a.nodes → Judges n c i → i.subject ≡ j.subject → named_at n.shapes i.claim ≡ sort s → sort_tested S G (entries_of a c) (named_at a.shapes j.claim) b ≡ ends s k → (x : ℕ) × WithinBudget (SortTest S G (scope_of (named_told a node)).entries (claim_of (named_told a node))) b (comes x) k × IsNode n i.node (judgement (place_of (named_told a node)) (scope_of (named_told a node)) (subject_of (named_told a node)) (sort x))
+  test_judged i s b k g l h u v r =
+      let x = told_stays a n c g l in
+      let y = ap (named_at n.shapes) u ∙ tree_stays a n j.subject g q.0 in
+      let e = h.2.1 ∙ ap (λ m. judgement c (scope_of m) (named_at n.shapes i.subject) (named_at n.shapes i.claim)) x ∙ ap (λ t. judgement c (scope_of (named_told a c)) t (named_at n.shapes i.claim)) y ∙ ap (judgement c (scope_of (named_told a c)) (named_at a.shapes j.subject)) v in
+      let w = sort_test_within S G (entries_of a c) (named_at a.shapes j.claim) s b k r in
+      subst (λ m. (x : ℕ) × WithinBudget (SortTest S G (scope_of m).entries (claim_of m)) b (comes x) k × IsNode n i.node (judgement (place_of m) (scope_of m) (subject_of m) (sort x))) (sym (of_judgement a c node j q p)) (s, w, (h.2.0, e))
+
+  pub test_refused : (ss : List Shape) (xs : List Name) (e : Fault) (h : InferFault) (b k : ℕ) → ShownAs ss xs e h → StopsWith ss e k (sort_tested S G (entries_of a c) (named_at a.shapes j.claim) b) → Refused xs (SortTest S G (scope_of (named_told a node)).entries (claim_of (named_told a node))) h b k
+  test_refused ss xs e h b k t r = subst (λ m. Refused xs (SortTest S G (scope_of m).entries (claim_of m)) h b k) (sym (of_judgement a c node j q p)) (refused_as (SortTest S G (entries_of a c) (named_at a.shapes j.claim)) b (sort_tested S G (entries_of a c) (named_at a.shapes j.claim) b) ss xs e h k (sort_test_exact S G (entries_of a c) (named_at a.shapes j.claim) b) t r)
+
+  pub fit_judged : (W : Named) (i : Judged) (b k : ℕ) → Keeps a n → c < length a.nodes → Judges n c i → i.subject ≡ j.subject → named_at n.shapes i.claim ≡ W → fitted S G (inferred S G 4000) (entries_of a c) (named_at a.shapes j.claim) W b ≡ ends tt k → WithinBudget (Fits S G inference_nesting (scope_of (named_told a node)).entries (claim_of (named_told a node)) W) b (comes tt) k × IsNode n i.node (judgement (place_of (named_told a node)) (scope_of (named_told a node)) (subject_of (named_told a node)) W)
+  fit_judged W i b k g l h u v r =
+      let x = told_stays a n c g l in
+      let y = ap (named_at n.shapes) u ∙ tree_stays a n j.subject g q.0 in
+      let e = h.2.1 ∙ ap (λ m. judgement c (scope_of m) (named_at n.shapes i.subject) (named_at n.shapes i.claim)) x ∙ ap (λ t. judgement c (scope_of (named_told a c)) t (named_at n.shapes i.claim)) y ∙ ap (judgement c (scope_of (named_told a c)) (named_at a.shapes j.subject)) v in
+      let w = fit_within S G 4000 (entries_of a c) (named_at a.shapes j.claim) W b k r in
+      subst (λ m. WithinBudget (Fits S G inference_nesting (scope_of m).entries (claim_of m) W) b (comes tt) k × IsNode n i.node (judgement (place_of m) (scope_of m) (subject_of m) W)) (sym (of_judgement a c node j q p)) (w, (h.2.0, e))
+
+  pub fit_refused : (W : Named) (ss : List Shape) (xs : List Name) (e : Misfit) (h : FitFault) (b k : ℕ) → ShownMisfit ss xs e h → MisfitsWith ss e k (fitted S G (inferred S G 4000) (entries_of a c) (named_at a.shapes j.claim) W b) → Unfit xs (Fits S G inference_nesting (scope_of (named_told a node)).entries (claim_of (named_told a node)) W) h b k
+  fit_refused W ss xs e h b k t r = subst (λ m. Unfit xs (Fits S G inference_nesting (scope_of m).entries (claim_of m) W) h b k) (sym (of_judgement a c node j q p)) (unfit_as (Fits S G 4000 (entries_of a c) (named_at a.shapes j.claim) W) b (fitted S G (inferred S G 4000) (entries_of a c) (named_at a.shapes j.claim) W b) ss xs e h k (fit_exact S G 4000 (entries_of a c) (named_at a.shapes j.claim) W b) t r)

@@ -15,7 +15,6 @@ use Rattle.pts_judge.proofs.Plain.{plain}
 use Rattle.pts_reduce.specs.Chain.{entries_of}
 use Rattle.pts_infer.specs.declared.fault.Fault.{Fault}
 use Rattle.pts_infer.specs.declared.fault.Misfit.{Misfit}
-use Rattle.pts_infer.specs.declared.fault.Misfit.TheVariants as misfit
 use Rattle.pts_infer.specs.declared.judgements.Function.{Function}
 use Rattle.pts_infer.specs.Given.{Gives, Fits, MisfitsWith, StopsWith, IsFunction}
 

@@ -1,6 +1,5 @@
 -- Sort tests, and inferences with a sort test.
 use Rattle.std.proofs.Common.{◌≡◌, ℕ, ◌<◌, sym, ap, ◌∙◌, subst, List, length, Some, None}
-use Rattle.pts_names.specs.Name.{Name}
 use Rattle.pts_terms.specs.Tree.{Named, sort, const, var, app, named_lam, named_pi, named_let}
 use Rattle.pts_ctx.specs.System.{Specification, axiom_of}
 use Rattle.pts_record.specs.declared.shape.Shape.{Shape}

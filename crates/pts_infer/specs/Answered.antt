@@ -1,16 +1,13 @@
 -- What the public calls answer, against what inference comes to.
-use Rattle.std.specs.Prelude.{◌≡◌, ◌+◌, ◌++◌, ℕ, List, [], length, true, false}
+use Rattle.std.specs.Prelude.{◌≡◌, ◌+◌, ◌++◌, ℕ, List, [], true, false}
 use Rattle.pts_names.specs.Name.{Name}
-use Rattle.pts_terms.specs.Tree.{Named, sort}
+use Rattle.pts_terms.specs.Tree.{Named}
 use Rattle.pts_terms.specs.Limits.{within}
 use Rattle.pts_terms.specs.Seen.{named}
 use Rattle.pts_ctx.specs.System.{Specification}
 use Rattle.pts_record.specs.declared.shape.Shape.{Shape}
-use Rattle.pts_record.specs.Table.{Tables}
-use Rattle.pts_record.specs.Said.{Said, judgement}
-use Rattle.pts_costs.specs.Costs.{Globals, Entries}
+use Rattle.pts_costs.specs.Costs.{Globals}
 use Rattle.pts_costs.specs.Laws.{WithinBudget, AboveBudget}
-use Rattle.pts_grow.specs.Keeps.{IsNode}
 use Rattle.pts_typing.specs.Typing.{Infers, Sorts, Fits, inference_nesting, Stop, moved, Kind, not_a_sort, not_product, no_rule, no_axiom, not_convertible, Flaw, FitFlaw, wanted, judged, by_flaw, by_limits, Outcome, comes, stops}
 use Rattle.pts_infer.specs.declared.answer.FlawKind.{FlawKind}
 use Rattle.pts_infer.specs.declared.answer.FlawKind.TheVariants as kind
@@ -20,7 +17,7 @@ use Rattle.pts_infer.specs.declared.answer.InferFault.TheVariants as infer
 use Rattle.pts_infer.specs.declared.answer.FitFault.{FitFault}
 use Rattle.pts_infer.specs.declared.answer.FitFault.TheVariants as fit
 use Rattle.pts_infer.specs.declared.fault.Fault.{Fault}
-use Rattle.pts_infer.specs.declared.fault.Fault.TheVariants.{Spent, Deep, Memory, Flawed}
+use Rattle.pts_infer.specs.declared.fault.Fault.TheVariants.{Spent, Deep, Flawed}
 use Rattle.pts_infer.specs.declared.fault.Misfit.{Misfit}
 use Rattle.pts_infer.specs.declared.fault.Misfit.TheVariants as misfit
 use Rattle.pts_infer.specs.Given.{flaw_of}

@@ -58,7 +58,9 @@ pub(crate) fn infer_abstraction(
     ensures later { Later meter.old meter.new }
 {
     match sorted_in(system, front, proof, ctx, domain, allowed, meter) {
-        Ok(domain) => abstract_over(system, front, proof, ctx, term, x, domain, body, allowed, meter),
+        Ok(domain) => abstract_over(
+            system, front, proof, ctx, term, x, domain, body, allowed, meter,
+        ),
         Err(fault) => Err(into_part(proof.alloc(), fault, 0)),
     }
 }
@@ -93,7 +95,9 @@ fn abstract_over(
     ensures later { Later meter.old meter.new }
 {
     let inner = add_assume(proof, ctx, domain.judged)?;
-    abstract_inside(system, front, proof, ctx, term, x, domain, inner, body, allowed, meter)
+    abstract_inside(
+        system, front, proof, ctx, term, x, domain, inner, body, allowed, meter,
+    )
 }
 
 // The body.
@@ -128,7 +132,9 @@ fn abstract_inside(
     ensures later { Later meter.old meter.new }
 {
     match infer_in(system, front, proof, inner, body, allowed, meter) {
-        Ok(body) => abstract_body(system, front, proof, ctx, term, x, domain, inner, body, allowed, meter),
+        Ok(body) => abstract_body(
+            system, front, proof, ctx, term, x, domain, inner, body, allowed, meter,
+        ),
         Err(fault) => Err(under_binder(proof.alloc(), fault, 1, x)),
     }
 }
@@ -204,7 +210,9 @@ fn abstract_ruled(
         Some(product) => {
             let x = x.copy(proof.alloc())?;
             let claim = add_line(proof, Shape::Pi(x, domain.judged.subject, body.claim))?;
-            Ok(abstract_made(system, proof, ctx, term, claim, domain, inner, body, sorted, product)?)
+            Ok(abstract_made(
+                system, proof, ctx, term, claim, domain, inner, body, sorted, product,
+            )?)
         }
         None => Err(flaw_here(proof.alloc(), What::NoRule(domain.sort, sorted.sort))),
     }

@@ -55,7 +55,9 @@ pub(crate) fn infer_application(
 {
     match infer_in(system, front, proof, ctx, function, allowed, meter) {
         Ok(judged) => {
-            apply_judged(system, front, proof, ctx, term, judged, argument, allowed, meter)
+            apply_judged(
+                system, front, proof, ctx, term, judged, argument, allowed, meter,
+            )
         }
         Err(fault) => Err(into_part(proof.alloc(), fault, 0)),
     }
@@ -90,7 +92,9 @@ fn apply_judged(
 {
     match function_in(system, front, proof, ctx, judged, allowed, meter) {
         Ok(function) => {
-            apply_function(system, front, proof, ctx, term, function, argument, allowed, meter)
+            apply_function(
+                system, front, proof, ctx, term, function, argument, allowed, meter,
+            )
         }
         Err(fault) => Err(into_part(proof.alloc(), fault, 0)),
     }
@@ -125,7 +129,9 @@ fn apply_function(
 {
     match infer_in(system, front, proof, ctx, argument, allowed, meter) {
         Ok(argument) => {
-            apply_fitted(system, front, proof, ctx, term, function, argument, allowed, meter)
+            apply_fitted(
+                system, front, proof, ctx, term, function, argument, allowed, meter,
+            )
         }
         Err(fault) => Err(into_part(proof.alloc(), fault, 1)),
     }
@@ -158,7 +164,16 @@ fn apply_fitted(
     ensures valid { IsValid system.now (bare_front front.now.entries) proof.old → IsValid system.now (bare_front front.now.entries) proof.new }
     ensures later { Later meter.old meter.new }
 {
-    match fit_in(system, front, proof, ctx, argument, function.domain, allowed, meter) {
+    match fit_in(
+        system,
+        front,
+        proof,
+        ctx,
+        argument,
+        function.domain,
+        allowed,
+        meter,
+    ) {
         Ok(argument) => apply_made(proof, ctx, term, function, argument),
         Err(misfit) => Err(for_argument(proof.alloc(), misfit, function.domain)),
     }

@@ -59,7 +59,9 @@ pub(crate) fn infer_definition(
     ensures later { Later meter.old meter.new }
 {
     match infer_in(system, front, proof, ctx, value, allowed, meter) {
-        Ok(value) => define_fitted(system, front, proof, ctx, term, x, value, ty, body, allowed, meter),
+        Ok(value) => define_fitted(
+            system, front, proof, ctx, term, x, value, ty, body, allowed, meter,
+        ),
         Err(fault) => Err(into_part(proof.alloc(), fault, 0)),
     }
 }
@@ -95,7 +97,9 @@ fn define_fitted(
     ensures later { Later meter.old meter.new }
 {
     match fit_in(system, front, proof, ctx, value, ty, allowed, meter) {
-        Ok(definition) => define_over(system, front, proof, ctx, term, x, definition, body, allowed, meter),
+        Ok(definition) => define_over(
+            system, front, proof, ctx, term, x, definition, body, allowed, meter,
+        ),
         Err(misfit) => Err(for_definition(proof.alloc(), misfit)),
     }
 }
@@ -129,7 +133,9 @@ fn define_over(
     ensures later { Later meter.old meter.new }
 {
     let inner = add_define(proof, ctx, definition)?;
-    define_inside(system, front, proof, ctx, term, x, definition, inner, body, allowed, meter)
+    define_inside(
+        system, front, proof, ctx, term, x, definition, inner, body, allowed, meter,
+    )
 }
 
 // The body.
@@ -163,7 +169,9 @@ fn define_inside(
     ensures later { Later meter.old meter.new }
 {
     match infer_in(system, front, proof, inner, body, allowed, meter) {
-        Ok(body) => define_typed(system, front, proof, ctx, term, x, definition, inner, body, allowed, meter),
+        Ok(body) => define_typed(
+            system, front, proof, ctx, term, x, definition, inner, body, allowed, meter,
+        ),
         Err(fault) => Err(under_binder(proof.alloc(), fault, 2, x)),
     }
 }
@@ -201,7 +209,9 @@ fn define_typed(
     match sort_of(proof, body.claim) {
         Some(_) => Ok(add_letsort(proof, ctx, term, body.claim, definition, inner, body)?),
         None => {
-            define_sorted(system, front, proof, ctx, term, x, definition, inner, body, allowed, meter)
+            define_sorted(
+                system, front, proof, ctx, term, x, definition, inner, body, allowed, meter,
+            )
         }
     }
 }
@@ -306,6 +316,14 @@ fn define_judged(
     ensures keeps { Keeps proof.old proof.new }
     ensures valid { StaysValid proof.old proof.new }
 {
-    let sorted = add_letsort(proof, ctx, claim, sorted.judged.claim, definition, inner, sorted.judged)?;
+    let sorted = add_letsort(
+        proof,
+        ctx,
+        claim,
+        sorted.judged.claim,
+        definition,
+        inner,
+        sorted.judged,
+    )?;
     add_let(proof, ctx, term, claim, definition, inner, body, sorted)
 }

@@ -139,5 +139,13 @@ fn fit_sorted(
     ensures later { Later meter.old meter.new }
 {
     let compared = compare_types(front, proof, ctx, judged.claim, want, meter)?;
-    Ok(add_conv(proof, ctx, judged.subject, want, judged, sorted.judged, compared)?)
+    Ok(add_conv(
+        proof,
+        ctx,
+        judged.subject,
+        want,
+        judged,
+        sorted.judged,
+        compared,
+    )?)
 }

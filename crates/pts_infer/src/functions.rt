@@ -29,10 +29,7 @@ use pts_rules::Meter;
 use std::alloc::AllocError;
 
 // The domain and the codomain of a term that is a product.
-fn product_parts(
-    proof: &Record,
-    term: usize,
-) -> Option<(usize, usize)>
+fn product_parts(proof: &Record, term: usize) -> Option<(usize, usize)>
     requires { term < length proof.now.shapes }
     ensures stand { IfSome result (λ p. (p.0 < length proof.now.shapes) × (p.1 < length proof.now.shapes)) }
     ensures parts { option_map (λ p. (named_at proof.now.shapes p.0, named_at proof.now.shapes p.1)) result ≡ as_product (named_at proof.now.shapes term) }
@@ -141,7 +138,15 @@ fn function_reached(
         right: form.term,
         node: form.node,
     };
-    let judged = add_conv(proof, ctx, judged.subject, form.term, judged, sorted.judged, compared)?;
+    let judged = add_conv(
+        proof,
+        ctx,
+        judged.subject,
+        form.term,
+        judged,
+        sorted.judged,
+        compared,
+    )?;
     Ok(Function {
         judged,
         domain,

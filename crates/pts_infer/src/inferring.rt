@@ -101,17 +101,23 @@ fn infer_form(
         Shape::Pi(x, domain, body) => {
             let x = x.copy(proof.alloc())?;
             let (domain, body) = (*domain, *body);
-            infer_product(system, front, proof, ctx, term, &x, domain, body, allowed, meter)
+            infer_product(
+                system, front, proof, ctx, term, &x, domain, body, allowed, meter,
+            )
         }
         Shape::Lam(x, domain, body) => {
             let x = x.copy(proof.alloc())?;
             let (domain, body) = (*domain, *body);
-            infer_abstraction(system, front, proof, ctx, term, &x, domain, body, allowed, meter)
+            infer_abstraction(
+                system, front, proof, ctx, term, &x, domain, body, allowed, meter,
+            )
         }
         Shape::Let(x, value, ty, body) => {
             let x = x.copy(proof.alloc())?;
             let (value, ty, body) = (*value, *ty, *body);
-            infer_definition(system, front, proof, ctx, term, &x, value, ty, body, allowed, meter)
+            infer_definition(
+                system, front, proof, ctx, term, &x, value, ty, body, allowed, meter,
+            )
         }
     }
 }

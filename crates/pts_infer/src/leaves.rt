@@ -29,10 +29,7 @@ use pts_terms::Sort;
 use std::alloc::AllocError;
 
 // The sort of a term that is one.
-pub(crate) fn sort_of(
-    proof: &Record,
-    term: usize,
-) -> Option<Sort>
+pub(crate) fn sort_of(proof: &Record, term: usize) -> Option<Sort>
     requires { term < length proof.now.shapes }
     ensures { option_map (λ s. s.0) result ≡ as_sort (named_at proof.now.shapes term) }
 {
@@ -44,10 +41,7 @@ pub(crate) fn sort_of(
 
 // Adds a sort.
 #[tactic(auto, using(pts_grow::proofs::Grow::keeping, pts_judge::proofs::Nodes::still, pts_reduce::proofs::Paid::later, crate::proofs::Atoms::sorts))]
-pub(crate) fn sort_line(
-    proof: &mut Record,
-    sort: Sort,
-) -> Result<usize, AllocError>
+pub(crate) fn sort_line(proof: &mut Record, sort: Sort) -> Result<usize, AllocError>
     ensures term { IfOk result (λ n. IsTerm proof.new n (sort_term sort.0)) }
     ensures keeps { Keeps proof.old proof.new }
     ensures valid { StaysValid proof.old proof.new }

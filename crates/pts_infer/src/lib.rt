@@ -24,6 +24,6 @@ mod terms;
 mod told;
 
 pub use answer::{FitFault, Flaw, FlawKind, InferFault, Typed};
-pub use calls::infer;
+pub use calls::{fit, infer, sort_test};
 pub use pts_reduce::{Conversion, Meter, ReduceFault, Whnf, convert, whnf};
 pub use terms::{infer_fitted, infer_term, infer_type};

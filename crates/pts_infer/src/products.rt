@@ -57,7 +57,9 @@ pub(crate) fn infer_product(
     ensures later { Later meter.old meter.new }
 {
     match sorted_in(system, front, proof, ctx, domain, allowed, meter) {
-        Ok(domain) => product_over(system, front, proof, ctx, term, x, domain, body, allowed, meter),
+        Ok(domain) => product_over(
+            system, front, proof, ctx, term, x, domain, body, allowed, meter,
+        ),
         Err(fault) => Err(into_part(proof.alloc(), fault, 0)),
     }
 }
@@ -92,7 +94,9 @@ fn product_over(
     ensures later { Later meter.old meter.new }
 {
     let inner = add_assume(proof, ctx, domain.judged)?;
-    product_inside(system, front, proof, ctx, term, x, domain, inner, body, allowed, meter)
+    product_inside(
+        system, front, proof, ctx, term, x, domain, inner, body, allowed, meter,
+    )
 }
 
 // The body.
@@ -198,5 +202,15 @@ pub(crate) fn judge_product(
         body: body.sort,
         product,
     };
-    add_pi(system, proof, ctx, term, claim, domain.judged, inner, body.judged, rule)
+    add_pi(
+        system,
+        proof,
+        ctx,
+        term,
+        claim,
+        domain.judged,
+        inner,
+        body.judged,
+        rule,
+    )
 }

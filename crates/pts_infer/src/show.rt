@@ -51,11 +51,7 @@ fn copies(alloc: Global, names: &[Name]) -> Result<Vec<Name>, AllocError>
 }
 
 // The given names, and behind them those that were passed, of which the last is the outermost.
-fn show_names(
-    alloc: Global,
-    given: &[Name],
-    passed: Vec<Name>,
-) -> Result<List<Name>, AllocError>
+fn show_names(alloc: Global, given: &[Name], passed: Vec<Name>) -> Result<List<Name>, AllocError>
     ensures { IfOk result (λ l. l ≡ given.now ++ reverse passed.items) }
 {
     let mut names = copies(alloc, given)?;

@@ -118,6 +118,14 @@ fn sort_reached(
         right: form.term,
         node: form.node,
     };
-    let judged = add_conv(proof, ctx, judged.subject, form.term, judged, wanted, compared)?;
+    let judged = add_conv(
+        proof,
+        ctx,
+        judged.subject,
+        form.term,
+        judged,
+        wanted,
+        compared,
+    )?;
     Ok(Sorted { judged, sort })
 }

@@ -1,9 +1,9 @@
-use Rattle.pts_typing.specs.Typing.{here, no_axiom, no_rule, by_axiom, by_rule, comes, made}
+use Rattle.pts_typing.specs.Typing.{here, no_rule, by_rule, made}
 use Rattle.pts_typing.specs.Inference.{gives}
-use Rattle.pts_ctx.specs.System.{axiom_of, rule_of}
-use Rattle.pts_terms.specs.Tree.{sort, named_pi}
-use Rattle.std.proofs.Common.{sym, ap, ◌∙◌, refl}
-use Rattle.pts_record.specs.Table.{named_at, bare_at}
+use Rattle.pts_ctx.specs.System.{rule_of}
+use Rattle.pts_terms.specs.Tree.{named_pi}
+use Rattle.std.proofs.Common.{sym, refl}
+use Rattle.pts_record.specs.Table.{named_at}
 use Rattle.pts_infer.proofs.Outwards.{found}
 use Rattle.pts_terms.specs.Tree.{lam}
 use Rattle.pts_infer.proofs.Runs.{parts_there, made_pi}

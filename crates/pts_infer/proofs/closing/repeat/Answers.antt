@@ -1,10 +1,7 @@
 use Rattle.std.proofs.Common.{refl}
-use Rattle.pts_record.specs.declared.shape.Node.{Node}
-use Rattle.pts_record.specs.declared.shape.Form.TheVariants.{Thin}
-use Rattle.pts_record.specs.Table.{Tables, bare_at, named_trees}
+use Rattle.pts_record.specs.Table.{bare_at, named_trees}
 use Rattle.pts_record.specs.Said.{named_told, line_of}
 use Rattle.pts_grow.proofs.Grow.{node_keeps, node_says, node_valid, same_keeps}
-use Rattle.pts_judge.specs.declared.judged.Judged.{Judged}
 use Rattle.pts_judge.proofs.Nodes.{new_judges}
 use Rattle.pts_judge.proofs.Converted.{thin_ok, itself_told, unlifted}
 use Rattle.pts_infer.proofs.Conclusions.{last_node, same_shapes, thin_of}

@@ -1,5 +1,5 @@
 use Rattle.std.proofs.Common.{ap, ◌∙◌}
-use Rattle.pts_record.specs.Table.{named_at, bare_at}
+use Rattle.pts_record.specs.Table.{named_at}
 use Rattle.pts_grow.proofs.Grow.{tree_stays}
 use Rattle.pts_infer.proofs.Atoms.{sort_there}
 use Rattle.pts_infer.proofs.definitions.define_judged.Goals as goal

@@ -1,5 +1,5 @@
-use Rattle.std.proofs.Common.{◌≡◌, refl, sym, ap, ◌∙◌}
-use Rattle.pts_record.specs.Table.{named_at, bare_at}
+use Rattle.std.proofs.Common.{◌≡◌, sym, ap, ◌∙◌}
+use Rattle.pts_record.specs.Table.{named_at}
 use Rattle.pts_rules.specs.Meter.{left}
 use Rattle.pts_terms.specs.Tree.{const}
 use Rattle.pts_ctx.specs.Entries.{global_of}

@@ -1,8 +1,7 @@
-use Rattle.pts_typing.specs.Typing.{here, no_axiom, no_rule, by_axiom, by_rule, comes, made}
+use Rattle.pts_typing.specs.Typing.{here, no_axiom, by_axiom}
 use Rattle.pts_typing.specs.Inference.{gives}
-use Rattle.pts_ctx.specs.System.{axiom_of, rule_of}
-use Rattle.pts_terms.specs.Tree.{sort, named_pi}
-use Rattle.std.proofs.Common.{sym, ap, ◌∙◌, refl}
+use Rattle.pts_ctx.specs.System.{axiom_of}
+use Rattle.std.proofs.Common.{sym}
 use Rattle.pts_infer.proofs.Outwards.{found}
 use Rattle.pts_typing.proofs.Ends.{axiom_missing}
 use Rattle.pts_infer.proofs.leaves.infer_sort.Goals as goal

@@ -1,8 +1,8 @@
-use Rattle.pts_typing.specs.Typing.{here, no_axiom, no_rule, by_axiom, by_rule, comes, made}
+use Rattle.pts_typing.specs.Typing.{here, no_rule, by_rule, comes}
 use Rattle.pts_typing.specs.Inference.{gives}
-use Rattle.pts_ctx.specs.System.{axiom_of, rule_of}
-use Rattle.pts_terms.specs.Tree.{sort, named_pi}
-use Rattle.std.proofs.Common.{sym, ap, ◌∙◌, refl}
+use Rattle.pts_ctx.specs.System.{rule_of}
+use Rattle.pts_terms.specs.Tree.{sort}
+use Rattle.std.proofs.Common.{sym, ap, ◌∙◌}
 use Rattle.pts_infer.proofs.Outwards.{found}
 use Rattle.pts_costs.specs.Run.{ends}
 use Rattle.pts_typing.proofs.Ends.{product_ruled, product_unruled}

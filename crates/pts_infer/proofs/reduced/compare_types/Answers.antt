@@ -1,4 +1,4 @@
-use Rattle.pts_record.specs.Table.{named_at, bare_at}
+use Rattle.pts_record.specs.Table.{named_at}
 use Rattle.pts_reduce.specs.Chain.{entries_of}
 use Rattle.pts_rules.specs.Meter.{left}
 use Rattle.pts_infer.proofs.Forms.{types_yes_at, types_deep_at, types_no_at}

@@ -1,6 +1,5 @@
 use Rattle.std.proofs.Common.{◌≡◌, ◌∙◌, subst, true, None}
 use Rattle.pts_terms.specs.Tree.{bare}
-use Rattle.pts_record.specs.Table.{named_at}
 use Rattle.pts_rules.specs.Valid.{last_said, concludes_as}
 use Rattle.pts_grow.proofs.Grow.{tree_stays}
 use Rattle.pts_infer.proofs.Runs.{entries_stay}

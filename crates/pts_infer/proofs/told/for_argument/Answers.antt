@@ -1,7 +1,7 @@
 use Rattle.std.proofs.Common.{sym, subst}
 use Rattle.pts_typing.specs.Typing.{of_argument}
 use Rattle.pts_record.specs.Table.{named_at}
-use Rattle.pts_infer.specs.Given.{ToldAs, ToldOf, FoundAs}
+use Rattle.pts_infer.specs.Given.{ToldOf}
 use Rattle.pts_infer.proofs.Outwards.{unfitting, own_argument}
 use Rattle.pts_infer.proofs.told.for_argument.Goals as goal
 

@@ -1,6 +1,6 @@
 use Rattle.std.proofs.Common.{sym, subst}
 use Rattle.pts_typing.specs.Typing.{of_definition}
-use Rattle.pts_infer.specs.Given.{ToldAs, ToldOf, FoundAs}
+use Rattle.pts_infer.specs.Given.{ToldOf}
 use Rattle.pts_infer.proofs.Outwards.{wanted_type, own_value}
 use Rattle.pts_infer.proofs.told.for_definition.Goals as goal
 

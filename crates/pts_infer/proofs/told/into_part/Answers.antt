@@ -1,6 +1,6 @@
 use Rattle.std.proofs.Common.{sym, subst}
 use Rattle.pts_typing.specs.Typing.{into}
-use Rattle.pts_infer.specs.Given.{ToldAs, ToldOf, FoundAs}
+use Rattle.pts_infer.specs.Given.{ToldAs}
 use Rattle.pts_infer.proofs.told.into_part.Goals as goal
 
 pub returns-in-Flawed : goal.returns-in-Flawed
