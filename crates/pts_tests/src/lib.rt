@@ -12,6 +12,8 @@ mod contexts;
 #[cfg(test)]
 mod growths;
 #[cfg(test)]
+mod inference;
+#[cfg(test)]
 mod laws;
 #[cfg(test)]
 mod libraries;

@@ -1,3 +1,4 @@
-pub mod OneWord
 pub mod LegalEnd
 pub mod RunEnds
+pub mod FormatEnds
+pub mod NoForm

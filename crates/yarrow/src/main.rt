@@ -1,11 +1,14 @@
-// The program: `check` reads a certificate from standard input and checks it.
+// The program: `check` reads a certificate from standard input and checks it, `format` reads terms and prints them.
 // It writes what the definition of the answer says, and the context that it hands back is legal.
-// Stands on the checker, the reader of certificates and the outside.
+// Stands on the checker, the readers of certificates, specifications and terms, and the outside.
 #![tactic(auto)]
 
 mod answer;
+mod command;
 mod enter;
+mod format;
 mod run;
+mod system;
 #[cfg(test)]
 mod tests;
 mod words;

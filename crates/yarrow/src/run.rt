@@ -1,11 +1,15 @@
 // The top call.
 
-ghost use Rattle.std.specs.Prelude.{◌≡◌, ◌≢◌, ◌↔◌, ◌⊎◌, ℕ, ◌≤◌, ◌∷◌, [], IsTrue, length, map, take, codes, string_bytes};
+ghost use Rattle.std.specs.Prelude.{◌≡◌, ◌⊎◌, ℕ, ◌≤◌, [], false, length, map, take, string_bytes};
 ghost use Rattle.std.specs.Io.KnownBytes.{append_known};
 ghost use Rattle.pts_io.specs.Counts.{Rose};
-ghost use Rattle.yarrow.specs.Runs.{IsCheckRun, IsUsageRun};
+ghost use Rattle.yarrow.specs.Commands.{command_of};
+ghost use Rattle.yarrow.specs.Runs.{IsCheckRun};
+ghost use Rattle.yarrow.specs.Commanded.{IsRun, reads_files};
 
 use crate::answer::{Answer, answer_to};
+use crate::command::{Command, command_of};
+use crate::format::run_format;
 use pts_ctx::Context;
 use pts_io::{Library, ReadFault, Sink, Source, read_whole, write_whole};
 use pts_names::List;
@@ -22,8 +26,8 @@ pub struct Finish {
     pub order: List<List<u32>>,
 }
 
-/// Runs the program with the words behind its own name. The one form is `check`, which reads no file; all others print
-/// `usage`, with status 2, and take nothing from the source.
+/// Runs the program with the words behind its own name. The forms are `check` and `format SPEC`, where SPEC is any word
+/// that isn't empty; all other words print `usage`, with status 2, and take nothing from the source.
 pub fn run<S: Source, K: Sink, L: Library>(
     alloc: Global,
     words: &[String],
@@ -31,16 +35,15 @@ pub fn run<S: Source, K: Sink, L: Library>(
     sink: &mut K,
     library: &mut L,
 ) -> Finish
-    ensures check { map string_bytes words.now ≡ codes "check" ∷ [] → IsCheckRun (record { left = S.left source.old; given = S.given source.old; given_after = S.given source.new; read_faults = S.faults source.old; read_faults_after = S.faults source.new; written = K.written sink.old; written_after = K.written sink.new; write_faults = K.faults sink.old; write_faults_after = K.faults sink.new }) result.status result.context.entries }
-    ensures usage { map string_bytes words.now ≢ codes "check" ∷ [] → IsUsageRun (record { left = S.left source.old; given = S.given source.old; given_after = S.given source.new; read_faults = S.faults source.old; read_faults_after = S.faults source.new; written = K.written sink.old; written_after = K.written sink.new; write_faults = K.faults sink.old; write_faults_after = K.faults sink.new }) result.status result.context.entries }
-    ensures library { library.new ≡ library.old }
+    ensures run { IsRun (command_of (map string_bytes words.now)) (record { files = L.files library.old; faults = L.faults library.old; faults_after = L.faults library.new; missing = L.missing library.old; missing_after = L.missing library.new; too_long = L.too_long library.old; too_long_after = L.too_long library.new }) (record { left = S.left source.old; given = S.given source.old; given_after = S.given source.new; read_faults = S.faults source.old; read_faults_after = S.faults source.new; written = K.written sink.old; written_after = K.written sink.new; write_faults = K.faults sink.old; write_faults_after = K.faults sink.new }) result.status result.context.entries }
+    ensures library { reads_files (command_of (map string_bytes words.now)) ≡ false → library.new ≡ library.old }
+    ensures files { L.files library.new ≡ L.files library.old }
     ensures order { result.order ≡ [] }
 {
-    let _ = &library;
-    if is_check(words) {
-        run_check(alloc, source, sink)
-    } else {
-        printed(alloc, sink, 2, b"usage\n", Context::new(alloc))
+    match command_of(words) {
+        Some(Command::Check) => run_check(alloc, source, sink),
+        Some(Command::Format(name)) => run_format(alloc, name, source, sink, library),
+        None => printed(alloc, sink, 2, b"usage\n", Context::new(alloc)),
     }
 }
 
@@ -69,32 +72,30 @@ pub fn run_check<S: Source, K: Sink>(alloc: Global, source: &mut S, sink: &mut K
     }
 }
 
-// The words are the one form that there is.
-fn is_check(words: &[String]) -> bool
-    ensures { IsTrue result ↔ (map string_bytes words.now ≡ codes "check" ∷ []) }
-{
-    if words.len() != 1 {
-        return false;
-    }
-    let word = words[0].as_str();
-    word == "check"
-}
-
-// The end of a run that had no memory.
-fn without_memory(alloc: Global) -> Finish
+/// The end of a run that had no memory.
+pub(crate) fn without_memory(alloc: Global) -> Finish
     ensures status { result.status ≡ 7 }
     ensures context { result.context.entries ≡ [] }
     ensures order { result.order ≡ [] }
 {
+    finished(alloc, 7)
+}
+
+/// The end of a run that built no context.
+pub(crate) fn finished(alloc: Global, status: u8) -> Finish
+    ensures status { result.status ≡ status }
+    ensures context { result.context.entries ≡ [] }
+    ensures order { result.order ≡ [] }
+{
     Finish {
-        status: 7,
+        status,
         context: Context::new(alloc),
         order: List::of(Vec::new(alloc)),
     }
 }
 
-// The end of a run that prints a line: its status, or 5 where the line could not be written whole.
-fn printed<K: Sink>(
+/// The end of a run that prints a line: its status, or 5 where the line could not be written whole.
+pub(crate) fn printed<K: Sink>(
     alloc: Global,
     sink: &mut K,
     status: u8,

@@ -1,4 +1,5 @@
 use crate::enter::{Entrance, ROOM, enter_all};
+use crate::format::run_format;
 use crate::run::{LIMIT, run, run_check};
 use pts_certificate::{Certificate, read_certificate};
 use pts_io::{MemoryLibrary, MemorySink, MemorySource};
@@ -91,4 +92,53 @@ fn refuses_no_text(alloc: Global) -> Result<bool, AllocError> {
 #[test]
 fn a_text_that_is_no_certificate_is_unreadable(rt: HostRuntime) {
     assert!(rt; matches!(refuses_no_text(rt.alloc()), Ok(true)));
+}
+
+// The library with the file `one`, a system with one sort.
+fn library_of(alloc: Global) -> Option<MemoryLibrary> {
+    let name = String::from_str(alloc, "one").ok()?;
+    let bytes = Vec::from_slice(alloc, b"sorts = ['*']\naxioms = []\nrules = []\n").ok()?;
+    let mut files = Vec::new(alloc);
+    files.push((name, bytes)).ok()?;
+    Some(MemoryLibrary::new(files, Vec::new(alloc)))
+}
+
+fn format_words(alloc: Global, name: &str) -> Option<Vec<String>> {
+    let mut words = words_of(alloc, "format")?;
+    words.push(String::from_str(alloc, name).ok()?).ok()?;
+    Some(words)
+}
+
+fn formats(alloc: Global, name: &str, wanted: u8, output: &str) -> Option<bool> {
+    let words = format_words(alloc, name)?;
+    let mut library = library_of(alloc)?;
+    let mut source = source_of(alloc, "(\\x:(*). (x))\n\n*\r\n#").ok()?;
+    let mut sink = sink_of(alloc).ok()?;
+    let status = run(alloc, &words, &mut source, &mut sink, &mut library).status;
+    Some(status == wanted && sink.bytes() == output.as_bytes())
+}
+
+#[test]
+fn lines_are_formatted_in_the_system_that_is_named(rt: HostRuntime) {
+    let lines = "\\x:*. x\nrefused Expected 0 Term\n*\nrefused UnknownSort 0 #\n";
+    assert!(rt; matches!(formats(rt.alloc(), "one", 0, lines), Some(true)));
+    assert!(rt; matches!(formats(rt.alloc(), "two", 6, "no file two\n"), Some(true)));
+    assert!(rt; matches!(formats(rt.alloc(), "", 2, "usage\n"), Some(true)));
+}
+
+// The source fails at its second call, in the midst of a line.
+fn fails_behind_a_line(alloc: Global) -> Option<bool> {
+    let mut calls = Vec::new(alloc);
+    calls.push(2).ok()?;
+    let bytes = Vec::from_slice(alloc, b"*\n*").ok()?;
+    let mut source = MemorySource::new(bytes, 3, calls);
+    let mut library = library_of(alloc)?;
+    let mut sink = sink_of(alloc).ok()?;
+    let status = run_format(alloc, "one", &mut source, &mut sink, &mut library).status;
+    Some(status == 4 && sink.bytes() == b"*\nread failed\n".as_slice())
+}
+
+#[test]
+fn what_was_read_before_a_failure_is_answered(rt: HostRuntime) {
+    assert!(rt; matches!(fails_behind_a_line(rt.alloc()), Some(true)));
 }

@@ -36,7 +36,8 @@ fn part_text(part: SystemPart) -> &'static str
     }
 }
 
-fn system_text(alloc: Global, fault: &SystemFault) -> Result<String, AllocError>
+/// A fault of a system, as it is printed.
+pub(crate) fn system_text(alloc: Global, fault: &SystemFault) -> Result<String, AllocError>
     ensures { IfOk result (λ s. string_bytes s ≡ system_text fault.now) }
 {
     match fault {

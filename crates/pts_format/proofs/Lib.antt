@@ -1,0 +1,5 @@
+pub mod Progress
+pub mod Steps
+pub mod Endings
+pub mod Once
+pub mod Closed

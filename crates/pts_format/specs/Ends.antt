@@ -1,0 +1,30 @@
+-- What was printed where the lines came to their end.
+use Rattle.std.specs.Prelude.{◌≡◌, ℕ, suc, ◌<◌, ◌≤◌, List, length, take, Option}
+use Rattle.std.specs.Io.KnownBytes.{append_known}
+use Rattle.pts_format.specs.declared.ended.Ended.{Ended}
+use Rattle.pts_format.specs.declared.ended.Ended.TheVariants.{Whole, ReadFailed, TooMuch, WriteFailed, NoMemory}
+use Rattle.pts_format.specs.Lines.{AnswersSome, AnswersAll, AnswersFirst}
+
+-- How many bytes were taken.
+abbrev pub IsCount : ℕ → Ended → ℕ → Type 0
+IsCount limit Whole n = n ≤ limit
+IsCount limit ReadFailed n = n ≤ limit
+IsCount limit TooMuch n = n ≡ suc limit
+IsCount limit WriteFailed n = n ≤ limit
+IsCount limit NoMemory n = n ≤ limit
+
+-- The text was printed, or a front part of it where the sink failed.
+abbrev pub Shows : Ended → Option (List ℕ) → Option (List ℕ) → List ℕ → Type 0
+Shows Whole old new out = new ≡ append_known old out
+Shows ReadFailed old new out = new ≡ append_known old out
+Shows TooMuch old new out = new ≡ append_known old out
+Shows WriteFailed old new out = (n : ℕ) × (n ≤ length out) × (new ≡ append_known old (take n out))
+Shows NoMemory old new out = new ≡ append_known old out
+
+-- What the text answers of the bytes, of which n were taken.
+abbrev pub Answers : List (List ℕ) → ℕ → Ended → ℕ → List ℕ → List ℕ → Type 0
+Answers sorts limit Whole n bytes out = AnswersAll sorts bytes out
+Answers sorts limit ReadFailed n bytes out = AnswersFirst sorts n bytes out
+Answers sorts limit TooMuch n bytes out = (limit < length bytes) × AnswersFirst sorts limit bytes out
+Answers sorts limit WriteFailed n bytes out = AnswersSome sorts bytes out
+Answers sorts limit NoMemory n bytes out = AnswersSome sorts bytes out

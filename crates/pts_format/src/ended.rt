@@ -1,0 +1,14 @@
+/// How the lines of a source came to their end.
+#[derive(Clone, Copy, Debug, PartialEq, Eq)]
+pub enum Ended {
+    /// Each line was answered.
+    Whole,
+    /// The source failed.
+    ReadFailed,
+    /// The source had more bytes than the limit.
+    TooMuch,
+    /// The sink failed.
+    WriteFailed,
+    /// There was no memory for more.
+    NoMemory,
+}

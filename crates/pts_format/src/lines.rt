@@ -1,0 +1,52 @@
+ghost use Rattle.std.specs.Prelude.{◌≡◌, ◌≢◌, ℕ, List, IfSome};
+ghost use Rattle.pts_io.specs.Counts.{raised, Rose};
+ghost use Rattle.pts_format.specs.declared.ended.Ended.{Ended};
+ghost use Rattle.pts_format.specs.Ends.{IsCount, Shows, Answers};
+
+use crate::ended::Ended;
+use crate::text::answer_input;
+use pts_ctx::System;
+use pts_io::{LineReader, ReadFail, Sink, Source, write_whole};
+use std::alloc::Global;
+
+/// Reads the source line by line and answers each as soon as it is read: by the closed term that it says over no
+/// constants, printed, or by the refusal of it. No more than `limit` bytes are read.
+///
+/// Answers how that came to its end. `ReadFailed` comes only where the source's count of faults rose, `WriteFailed` only
+/// where the sink's did, and `TooMuch` exactly where a byte behind the limit was taken. Each line that was read whole was
+/// answered before.
+pub fn format_lines<S: Source, K: Sink>(
+    alloc: Global,
+    system: &System,
+    source: &mut S,
+    sink: &mut K,
+    limit: u32,
+) -> Ended
+    ensures read_failed { result ≡ Ended.ReadFailed → Rose (S.faults source.old) (S.faults source.new) }
+    ensures reads { result ≢ Ended.ReadFailed → S.faults source.new ≡ S.faults source.old }
+    ensures write_failed { result ≡ Ended.WriteFailed → Rose (K.faults sink.old) (K.faults sink.new) }
+    ensures writes { result ≢ Ended.WriteFailed → K.faults sink.new ≡ K.faults sink.old }
+    ensures lines { (n : ℕ) × (S.given source.new ≡ raised (S.given source.old) n) × IsCount limit result n
+        × ((out : List ℕ) × Shows result (K.written sink.old) (K.written sink.new) out
+        × IfSome (S.left source.old) (λ bytes. Answers system.now.sorts limit result n bytes out)) }
+{
+    let Ok(mut reader) = LineReader::new(alloc, u64::from(limit)) else {
+        return Ended::NoMemory;
+    };
+    // (a line has a byte at least, so no more lines come)
+    for before in 0..u64::from(limit) + 1 {
+        let input = match reader.next(source) {
+            Ok(input) => input,
+            Err(ReadFail::Failed) => return Ended::ReadFailed,
+            Err(ReadFail::Memory) => return Ended::NoMemory,
+        };
+        let line = match answer_input(alloc, system, before + 1, &input) {
+            Ok(line) => line,
+            Err(ended) => return ended,
+        };
+        let Ok(()) = write_whole(sink, line.as_bytes()) else {
+            return Ended::WriteFailed;
+        };
+    }
+    Ended::NoMemory
+}

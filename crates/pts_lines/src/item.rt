@@ -1,0 +1,185 @@
+ghost use Rattle.std.specs.Prelude.{◌≡◌, ◌≤◌, IfOk, length, if◌then◌else◌, Some, None};
+ghost use Rattle.pts_parser.specs.Resolution.{is_plain};
+ghost use Rattle.pts_lines.specs.Items.{plain as a_plain, label as a_label, placed as a_name, number as a_number, colon as a_colon, assign as an_assign, semicolon as a_semicolon, sign as a_sign, is_label, is_padded, units, value_behind, first_item};
+ghost use Rattle.pts_lines.specs.Forms.{AnswersAs, ended};
+
+use pts_names::Name;
+use pts_parser::ReadFault;
+use pts_syntax::Kind;
+use pts_tokens::Token;
+use std::alloc::Global;
+
+/// A plain name, and the tokens behind it.
+pub(crate) fn plain(
+    alloc: Global,
+    tokens: &[(usize, Token)],
+    length: usize,
+) -> Result<(Name, &[(usize, Token)]), ReadFault>
+    ensures { AnswersAs (λ v. (v.0, v.1.now)) result (first_item a_plain length tokens.now) }
+{
+    let Some((spot, behind)) = tokens.split_first() else {
+        return Err(ReadFault::Expected(length, Kind::Plain));
+    };
+    match &spot.1 {
+        Token::Name(name) if is_plain(name) => Ok((name.copy(alloc)?, behind)),
+        _ => Err(ReadFault::Expected(spot.0, Kind::Plain)),
+    }
+}
+
+/// A plain name of at most 64 bytes, and the tokens behind it.
+pub(crate) fn label(
+    alloc: Global,
+    tokens: &[(usize, Token)],
+    length: usize,
+) -> Result<(Name, &[(usize, Token)]), ReadFault>
+    ensures { AnswersAs (λ v. (v.0, v.1.now)) result (first_item a_label length tokens.now) }
+{
+    let Some((spot, behind)) = tokens.split_first() else {
+        return Err(ReadFault::Expected(length, Kind::Plain));
+    };
+    match &spot.1 {
+        Token::Name(name) if is_label(name) => Ok((name.copy(alloc)?, behind)),
+        _ => Err(ReadFault::Expected(spot.0, Kind::Plain)),
+    }
+}
+
+/// Any name with its place, and the tokens behind it.
+pub(crate) fn name(
+    alloc: Global,
+    tokens: &[(usize, Token)],
+    length: usize,
+) -> Result<((usize, Name), &[(usize, Token)]), ReadFault>
+    ensures { AnswersAs (λ v. (v.0, v.1.now)) result (first_item a_name length tokens.now) }
+{
+    let Some((spot, behind)) = tokens.split_first() else {
+        return Err(ReadFault::Expected(length, Kind::Name));
+    };
+    match &spot.1 {
+        Token::Name(name) => Ok(((spot.0, name.copy(alloc)?), behind)),
+        _ => Err(ReadFault::Expected(spot.0, Kind::Name)),
+    }
+}
+
+/// A number of units, and the tokens behind it.
+pub(crate) fn number(
+    tokens: &[(usize, Token)],
+    length: usize,
+) -> Result<(u64, &[(usize, Token)]), ReadFault>
+    ensures { AnswersAs (λ v. (v.0, v.1.now)) result (first_item a_number length tokens.now) }
+{
+    let Some((spot, behind)) = tokens.split_first() else {
+        return Err(ReadFault::Expected(length, Kind::Number));
+    };
+    if let Token::Number(digits) = &spot.1 {
+        if let Some(number) = units(digits.text().as_bytes()) {
+            return Ok((number, behind));
+        }
+    }
+    Err(ReadFault::Expected(spot.0, Kind::Number))
+}
+
+/// The tokens behind `:`.
+pub(crate) fn colon(
+    tokens: &[(usize, Token)],
+    length: usize,
+) -> Result<&[(usize, Token)], ReadFault>
+    ensures { AnswersAs (λ v. (tt, v.now)) result (first_item a_colon length tokens.now) }
+{
+    let Some((spot, behind)) = tokens.split_first() else {
+        return Err(ReadFault::Expected(length, Kind::Colon));
+    };
+    match &spot.1 {
+        Token::Colon => Ok(behind),
+        _ => Err(ReadFault::Expected(spot.0, Kind::Colon)),
+    }
+}
+
+/// The tokens behind `:=`.
+pub(crate) fn assign(
+    tokens: &[(usize, Token)],
+    length: usize,
+) -> Result<&[(usize, Token)], ReadFault>
+    ensures { AnswersAs (λ v. (tt, v.now)) result (first_item an_assign length tokens.now) }
+{
+    let Some((spot, behind)) = tokens.split_first() else {
+        return Err(ReadFault::Expected(length, Kind::Assign));
+    };
+    match &spot.1 {
+        Token::Assign => Ok(behind),
+        _ => Err(ReadFault::Expected(spot.0, Kind::Assign)),
+    }
+}
+
+/// The tokens behind `;`.
+pub(crate) fn semicolon(
+    tokens: &[(usize, Token)],
+    length: usize,
+) -> Result<&[(usize, Token)], ReadFault>
+    ensures { AnswersAs (λ v. (tt, v.now)) result (first_item a_semicolon length tokens.now) }
+{
+    let Some((spot, behind)) = tokens.split_first() else {
+        return Err(ReadFault::Expected(length, Kind::Semicolon));
+    };
+    match &spot.1 {
+        Token::Semicolon => Ok(behind),
+        _ => Err(ReadFault::Expected(spot.0, Kind::Semicolon)),
+    }
+}
+
+/// Whether `:` stands there and not `:=`, and the tokens behind it.
+pub(crate) fn sign(
+    tokens: &[(usize, Token)],
+    length: usize,
+) -> Result<(bool, &[(usize, Token)]), ReadFault>
+    ensures { AnswersAs (λ v. (v.0, v.1.now)) result (first_item a_sign length tokens.now) }
+{
+    let Some((spot, behind)) = tokens.split_first() else {
+        return Err(ReadFault::Expected(length, Kind::Assign));
+    };
+    match &spot.1 {
+        Token::Colon => Ok((true, behind)),
+        Token::Assign => Ok((false, behind)),
+        _ => Err(ReadFault::Expected(spot.0, Kind::Assign)),
+    }
+}
+
+/// Nothing is left.
+pub(crate) fn end(tokens: &[(usize, Token)], length: usize) -> Result<(), ReadFault>
+    ensures { AnswersAs (λ v. tt) result (ended length tokens.now) }
+{
+    match tokens.first() {
+        None => Ok(()),
+        Some(spot) => Err(ReadFault::Expected(spot.0, Kind::End)),
+    }
+}
+
+/// A name of one part other than `_`.
+fn is_plain(name: &Name) -> bool
+    ensures { result ≡ is_plain name.now }
+{
+    name.parts() == 1 && name.text() != "_"
+}
+
+/// A plain name of at most 64 bytes.
+fn is_label(name: &Name) -> bool
+    ensures { result ≡ is_label name.now }
+{
+    is_plain(name) && name.text().len() <= 64
+}
+
+/// The number of units that digits write: no leading zero, and at most 10,000,000.
+fn units(digits: &[u8]) -> Option<u64>
+    ensures { result ≡ units digits.now }
+{
+    if digits.len() > 1 && digits[0] == b'0' {
+        return None;
+    }
+    let mut value: u64 = 0;
+    for digit in digits {
+        value = value * 10 + u64::from(digit.saturating_sub(b'0'));
+        if value > 10_000_000 {
+            return None;
+        }
+    }
+    Some(value)
+}

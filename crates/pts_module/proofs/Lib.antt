@@ -1,0 +1,4 @@
+pub mod Pieces
+pub mod Utf8
+pub mod Fronts
+pub mod Reading

@@ -1,0 +1,15 @@
+//! Module files.
+//! The bytes of a file are read as its lines, or refused at the first line that breaks the format.
+//! Stands on the lines of declarations.
+#![tactic(auto)]
+
+mod fault;
+mod file;
+mod item;
+mod split;
+mod stage;
+#[cfg(test)]
+mod tests;
+
+pub use fault::{ModuleFault, Why};
+pub use file::{Module, ModuleLine, read_module};

@@ -1,0 +1,32 @@
+-- The forms of words.
+use Rattle.std.specs.Prelude.{ℕ, List, [], ◌∷◌, if◌then◌else◌, codes, Option, Some, None}
+use Rattle.pts_names.specs.Name.{same_name}
+use Rattle.yarrow.specs.declared.command.Command.{Command as Asked}
+use Rattle.yarrow.specs.declared.command.Command.TheVariants as asked
+
+-- A command, with what stands behind its word.
+pub data Command : Type 0 where
+  check : Command
+  format : (specification : List ℕ) → Command
+
+-- `check` stands alone.
+abbrev pub check_with : List (List ℕ) → Option Command
+check_with [] = Some check
+check_with _ = None
+
+-- Behind `format` stands one word that isn't empty.
+abbrev pub format_with : List (List ℕ) → Option Command
+format_with ((b ∷ bs) ∷ []) = Some (format (b ∷ bs))
+format_with _ = None
+
+-- The command that words are, if they have a form.
+unfoldable pub command_of : List (List ℕ) → Option Command
+command_of [] = None
+command_of (w ∷ ws) =
+    if same_name w (codes "check") then check_with ws
+    else (if same_name w (codes "format") then format_with ws else None)
+
+-- The command that the program understood.
+abbrev pub command_seen : Asked → Command
+command_seen asked.Check = check
+command_seen (asked.Format word) = format word.now

@@ -1,0 +1,46 @@
+// What the words ask for.
+
+ghost use Rattle.std.specs.Prelude.{◌≡◌, Some, None, map, string_bytes, MatchOption};
+ghost use Rattle.yarrow.specs.Commands.{command_of, command_seen, check_with, format_with};
+
+/// A command, with what stands behind its word.
+#[derive(Clone, Copy, Debug)]
+pub(crate) enum Command<'a> {
+    /// `check`
+    Check,
+    /// `format SPEC`
+    Format(&'a str),
+}
+
+/// The command that the words are, or nothing where they have no form.
+#[tactic(auto, unfolding(crate::specs::Commands::command_of))]
+pub(crate) fn command_of(words: &[String]) -> Option<Command<'_>>
+    ensures { MatchOption result (command_of (map string_bytes words.now) ≡ None) (λ c. command_of (map string_bytes words.now) ≡ Some (command_seen c)) }
+{
+    let [word, rest @ ..] = words else {
+        return None;
+    };
+    match word.as_str() {
+        "check" => check_with(rest),
+        "format" => format_with(rest),
+        _ => None,
+    }
+}
+
+fn check_with(words: &[String]) -> Option<Command<'_>>
+    ensures { MatchOption result (check_with (map string_bytes words.now) ≡ None) (λ c. check_with (map string_bytes words.now) ≡ Some (command_seen c)) }
+{
+    match words {
+        [] => Some(Command::Check),
+        _ => None,
+    }
+}
+
+fn format_with(words: &[String]) -> Option<Command<'_>>
+    ensures { MatchOption result (format_with (map string_bytes words.now) ≡ None) (λ c. format_with (map string_bytes words.now) ≡ Some (command_seen c)) }
+{
+    match words {
+        [word] if !word.is_empty() => Some(Command::Format(word.as_str())),
+        _ => None,
+    }
+}

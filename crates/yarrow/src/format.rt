@@ -1,0 +1,59 @@
+// The command `format`.
+
+ghost use Rattle.std.specs.Prelude.{◌≡◌, []};
+ghost use Rattle.yarrow.specs.Formats.{LinesPrint, Writes, IsFormatRun};
+
+use crate::run::{Finish, LIMIT, finished, printed, without_memory};
+use crate::system::{system_named, unready_line, unready_status};
+use pts_ctx::{Context, System};
+use pts_format::{Ended, format_lines};
+use pts_io::{Library, Sink, Source};
+use std::alloc::Global;
+
+/// Reads the system that the library's file of this name specifies, and then each line of the source as a closed term
+/// over no constants, which is printed, or refused. Each line is answered before the next one is read.
+///
+/// Where there is no system, one line says why, and nothing is taken from the source.
+pub fn run_format<S: Source, K: Sink, L: Library>(
+    alloc: Global,
+    name: &str,
+    source: &mut S,
+    sink: &mut K,
+    library: &mut L,
+) -> Finish
+    ensures format { IsFormatRun name.now (record { files = L.files library.old; faults = L.faults library.old; faults_after = L.faults library.new; missing = L.missing library.old; missing_after = L.missing library.new; too_long = L.too_long library.old; too_long_after = L.too_long library.new }) (record { left = S.left source.old; given = S.given source.old; given_after = S.given source.new; read_faults = S.faults source.old; read_faults_after = S.faults source.new; written = K.written sink.old; written_after = K.written sink.new; write_faults = K.faults sink.old; write_faults_after = K.faults sink.new }) result.status }
+    ensures context { result.context.entries ≡ [] }
+    ensures order { result.order ≡ [] }
+    ensures files { L.files library.new ≡ L.files library.old }
+{
+    match system_named(alloc, name, library) {
+        Ok(system) => format_source(alloc, &system, source, sink),
+        Err(why) => match unready_line(alloc, name, &why) {
+            Ok(line) => {
+                let status = unready_status(&why);
+                printed(alloc, sink, status, line.as_bytes(), Context::new(alloc))
+            }
+            Err(_) => without_memory(alloc),
+        },
+    }
+}
+
+// Answers the lines of the source.
+fn format_source<S: Source, K: Sink>(
+    alloc: Global,
+    system: &System,
+    source: &mut S,
+    sink: &mut K,
+) -> Finish
+    ensures format { Writes (LinesPrint system.now.sorts (record { left = S.left source.old; given = S.given source.old; given_after = S.given source.new; read_faults = S.faults source.old; read_faults_after = S.faults source.new; written = K.written sink.old; written_after = K.written sink.new; write_faults = K.faults sink.old; write_faults_after = K.faults sink.new })) (record { left = S.left source.old; given = S.given source.old; given_after = S.given source.new; read_faults = S.faults source.old; read_faults_after = S.faults source.new; written = K.written sink.old; written_after = K.written sink.new; write_faults = K.faults sink.old; write_faults_after = K.faults sink.new }) result.status }
+    ensures context { result.context.entries ≡ [] }
+    ensures order { result.order ≡ [] }
+{
+    match format_lines(alloc, system, source, sink, LIMIT as u32) {
+        Ended::Whole => finished(alloc, 0),
+        Ended::ReadFailed => printed(alloc, sink, 4, b"read failed\n", Context::new(alloc)),
+        Ended::TooMuch => printed(alloc, sink, 8, b"input too long\n", Context::new(alloc)),
+        Ended::WriteFailed => finished(alloc, 5),
+        Ended::NoMemory => without_memory(alloc),
+    }
+}

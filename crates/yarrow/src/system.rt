@@ -1,0 +1,100 @@
+// The system that a command works in.
+
+ghost use Rattle.std.specs.Prelude.{◌≡◌, Ok, IfOk, IfErr, string_bytes};
+ghost use Rattle.pts_spec.specs.SpecFile.{system_of};
+ghost use Rattle.yarrow.specs.Systems.{IsReady, IsUnready, RefusesFile, specification_text, unready_line, unready_status};
+
+use crate::words::system_text;
+use pts_ctx::System;
+use pts_io::{Found, Library, ReadFail};
+use pts_spec::{SpecFault, read_system};
+use std::alloc::{AllocError, Global};
+
+/// Why a command has no system to work in.
+#[derive(Drop)]
+pub(crate) enum Unready {
+    /// The library failed.
+    LibraryFailed,
+    /// The library has no file of the name.
+    NoFile,
+    /// The file is longer than a file may be.
+    TooLong,
+    /// The file is no specification of a system. The refusal is never want of memory.
+    Refused(SpecFault),
+    /// There was no memory for it.
+    NoMemory,
+}
+
+/// Reads the specification of this name, whose file is read from the library once.
+pub(crate) fn system_named<L: Library>(
+    alloc: Global,
+    name: &str,
+    library: &mut L,
+) -> Result<System, Unready>
+    ensures files { L.files library.new ≡ L.files library.old }
+    ensures ready { IfOk result (λ system. IsReady (record { files = L.files library.old; faults = L.faults library.old; faults_after = L.faults library.new; missing = L.missing library.old; missing_after = L.missing library.new; too_long = L.too_long library.old; too_long_after = L.too_long library.new }) name.now system) }
+    ensures unready { IfErr result (λ why. IsUnready (record { files = L.files library.old; faults = L.faults library.old; faults_after = L.faults library.new; missing = L.missing library.old; missing_after = L.missing library.new; too_long = L.too_long library.old; too_long_after = L.too_long library.new }) name.now why) }
+{
+    match library.read(alloc, name) {
+        Ok(Found::Bytes(bytes)) => system_in(alloc, bytes.as_slice()),
+        Ok(Found::NoFile) => Err(Unready::NoFile),
+        Ok(Found::TooLong) => Err(Unready::TooLong),
+        Err(ReadFail::Failed) => Err(Unready::LibraryFailed),
+        Err(ReadFail::Memory) => Err(Unready::NoMemory),
+    }
+}
+
+// The system that a file writes.
+fn system_in(alloc: Global, bytes: &[u8]) -> Result<System, Unready>
+    ensures ready { IfOk result (λ system. system_of bytes.now ≡ Ok system) }
+    ensures refused { IfErr result (RefusesFile bytes.now) }
+{
+    match read_system(alloc, bytes) {
+        Ok(system) => Ok(system),
+        Err(SpecFault::Memory) => Err(Unready::NoMemory),
+        Err(fault) => Err(Unready::Refused(fault)),
+    }
+}
+
+/// The status of a run that has no system.
+pub(crate) fn unready_status(why: &Unready) -> u8
+    ensures { result ≡ unready_status why.now }
+{
+    match why {
+        Unready::LibraryFailed | Unready::NoFile => 6,
+        Unready::TooLong => 8,
+        Unready::Refused(_) => 3,
+        Unready::NoMemory => 7,
+    }
+}
+
+/// The line of a run that has no system: `library failed NAME`, `no file NAME`, `too long NAME`, or `refused system` with
+/// the refusal. After want of memory it is empty.
+pub(crate) fn unready_line(alloc: Global, name: &str, why: &Unready) -> Result<String, AllocError>
+    ensures { IfOk result (λ s. string_bytes s ≡ unready_line name.now why.now) }
+{
+    match why {
+        Unready::LibraryFailed => format!(in alloc; "library failed {name}\n"),
+        Unready::NoFile => format!(in alloc; "no file {name}\n"),
+        Unready::TooLong => format!(in alloc; "too long {name}\n"),
+        Unready::Refused(fault) => {
+            let fault = specification_text(alloc, fault)?;
+            format!(in alloc; "refused system {fault}\n")
+        }
+        Unready::NoMemory => Ok(String::new(alloc)),
+    }
+}
+
+fn specification_text(alloc: Global, fault: &SpecFault) -> Result<String, AllocError>
+    ensures { IfOk result (λ s. string_bytes s ≡ specification_text fault.now) }
+{
+    match fault {
+        SpecFault::NotToml => String::from_str(alloc, "NotToml"),
+        SpecFault::Shape(key) => {
+            let key = key.text();
+            format!(in alloc; "Shape {key}")
+        }
+        SpecFault::System(fault) => system_text(alloc, fault),
+        SpecFault::Memory => String::from_str(alloc, "Memory"),
+    }
+}
