@@ -12,8 +12,6 @@ mod contexts;
 #[cfg(test)]
 mod growths;
 #[cfg(test)]
-mod inference;
-#[cfg(test)]
 mod laws;
 #[cfg(test)]
 mod libraries;

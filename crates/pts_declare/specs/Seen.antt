@@ -1,0 +1,9 @@
+-- A scope as contracts see it.
+use Rattle.std.specs.Prelude.{List}
+use Rattle.pts_names.specs.Name.{Name}
+use Rattle.pts_ctx.specs.Front.{Global}
+
+-- The label of a module, and the front in which its declarations stand.
+pub record Seen : Type 0 where
+  pub label : Name
+  pub entries : List (Global Name)

@@ -1,0 +1,40 @@
+-- What a module file declares, with its names and sorts looked up.
+use Rattle.std.specs.Prelude.{ℕ, List, [], nat_le, length, Bool, ◌&&◌, if◌then◌else◌, Option, Some, None, is_some, Result, Ok}
+use Rattle.pts_names.specs.Name.{Name, joined}
+use Rattle.pts_terms.specs.Tree.{Named}
+use Rattle.pts_ctx.specs.Front.{Global}
+use Rattle.pts_ctx.specs.Seen.{place_of}
+use Rattle.pts_syntax.specs.Syntax.{Syntax}
+use Rattle.pts_parser.specs.declared.fault.ReadFault.{ReadFault}
+use Rattle.pts_parser.specs.Resolution.{is_plain, resolved, and_then}
+
+-- A plain name that fits behind a label.
+abbrev pub is_declarable : Name → Bool
+is_declarable x = is_plain x && nat_le (length x) 63
+
+-- The constant for which a name stands in the module M: the declaration of the module that has this name, if it stands
+-- in the front.
+abbrev pub visible : (M : Name) → List (Global Name) → Name → Option Name
+visible M G x = if is_declarable x && is_some (place_of (joined M x) G) then Some (joined M x) else None
+
+-- An assumption with its type; a definition with its type, if one is written, and its body.
+pub data Statement : Type 0 where
+  assumes : (x : Name) (type : Syntax) → Statement
+  defines : (x : Name) (type : Option Syntax) (body : Syntax) → Statement
+
+abbrev pub name_of : Statement → Name
+name_of (assumes x A) = x
+name_of (defines x A t) = x
+
+-- The same with terms.
+pub data Stated : Type 0 where
+  assumption : (type : Named) → Stated
+  definition : (body : Named) → Stated
+  typed_definition : (type body : Named) → Stated
+
+-- The terms of a statement; or the first fault of a name or a sort from the left. A type stands before the body.
+module _ (sorts : List (List ℕ)) (scope : Name → Option Name) where
+  abbrev pub stated : Statement → Result Stated ReadFault
+  stated (assumes x A) = and_then (resolved sorts scope [] A) (λ B. Ok (assumption B))
+  stated (defines x None t) = and_then (resolved sorts scope [] t) (λ u. Ok (definition u))
+  stated (defines x (Some A) t) = and_then (resolved sorts scope [] A) (λ B. and_then (resolved sorts scope [] t) (λ u. Ok (typed_definition B u)))
