@@ -5,6 +5,7 @@
 
 mod compare;
 mod declaration;
+mod hints;
 mod links;
 mod measure;
 mod record;

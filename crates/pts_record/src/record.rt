@@ -1,11 +1,12 @@
 // A record: its two tables, and what is kept beside their lines.
 
-ghost use Rattle.std.specs.Prelude.{◌≡◌, ◌<◌, ◌≤◌, ◌++◌, ◌∷◌, [], length, take, slice_get, Some, None, OnOk, OnErr, IfOk, IfErr};
+ghost use Rattle.std.specs.Prelude.{◌≡◌, ◌<◌, ◌≤◌, ◌++◌, ◌∷◌, [], length, take, slice_get, Some, None, OnOk, OnErr, IfOk, IfErr, IfSome};
 ghost use Rattle.pts_terms.specs.Tree.{bare, same_term};
 ghost use Rattle.pts_terms.specs.Limits.{depth_of, size_of};
 ghost use Rattle.pts_record.specs.Table.{Tables, bare_trees, bare_at, named_at, named_trees, unfold_shape, no_name, the_name, AllBelow, NodesLinked, shape_links, node_links, term_links, term_fault, node_fault, kept_node, UnlessMemory, measure};
 ghost use Rattle.pts_record.specs.Said.{told, named_told, say_as, line_of, scope_of, extent, is_judgement};
 
+use crate::hints::{Hints, node_key, term_key};
 use crate::links::{context_fault, kept, part_fault, premise_fault, terms_fault};
 use crate::shape::copy_shapes;
 use crate::{Extent, Form, Measure, Node, RecordFault, Shape};
@@ -17,7 +18,7 @@ use std::marker::Model;
 const LINES: usize = 0x1_0000_0000;
 
 /// A table of terms and a table of nodes. Each link leads to an earlier line, each term of a node stands, and each
-/// term is within limits. Contracts see the two tables.
+/// term is within limits. Contracts see the two tables, and not the hints by which equal lines are found.
 #[derive(Drop)]
 pub struct Record {
     alloc: Global,
@@ -25,6 +26,7 @@ pub struct Record {
     measures: Vec<Measure>,
     nodes: Vec<Node>,
     extents: Vec<Extent>,
+    hints: Hints,
 }
 
 impl Model for Record {
@@ -49,10 +51,11 @@ impl Record {
             measures: Vec::new(alloc),
             nodes: Vec::new(alloc),
             extents: Vec::new(alloc),
+            hints: Hints::new(alloc),
         }
     }
 
-    /// The same record.
+    /// The same record, without hints.
     pub fn copy(&self) -> Result<Record, AllocError>
         ensures { IfOk result (λ r. r ≡ self.now) }
     {
@@ -62,6 +65,7 @@ impl Record {
             measures: self.measures.iter().copied().collect(self.alloc)?,
             nodes: self.nodes.iter().copied().collect(self.alloc)?,
             extents: self.extents.iter().copied().collect(self.alloc)?,
+            hints: Hints::new(self.alloc),
         })
     }
 
@@ -190,6 +194,54 @@ impl Record {
         self.extents.push(extent)?;
         self.nodes.push(node)?;
         Ok(number)
+    }
+
+    /// The number of a term's line that is this one, printed names and all, where a hint leads to it.
+    pub fn known_term(&self, shape: &Shape) -> Option<usize>
+        ensures { IfSome result (λ n. slice_get self.now.shapes n ≡ Some shape.now) }
+    {
+        let number = self.hints.line(term_key(shape))?;
+        match self.shapes.get(number) {
+            Some(line) if line.same(shape) => Some(number),
+            _ => None,
+        }
+    }
+
+    /// The number of a node's line that is this one as it is kept, where a hint leads to it.
+    pub fn known_node(&self, node: &Node) -> Option<usize>
+        ensures { IfSome result (λ n. slice_get self.now.nodes n ≡ Some (kept_node node.now)) }
+    {
+        let node = kept(*node);
+        let number = self.hints.line(node_key(&node))?;
+        match self.nodes.get(number) {
+            Some(line) if line.same(&node) => Some(number),
+            _ => None,
+        }
+    }
+
+    /// Keeps a hint to the line of a term. The tables stay as they are, and so they do for want of memory.
+    pub fn note_term(&mut self, number: usize)
+        requires { number < length self.old.shapes }
+        ensures { self.new ≡ self.old }
+    {
+        let key = term_key(&self.shapes[number]);
+        self.hints.note(self.alloc, key, number);
+    }
+
+    /// Keeps a hint to the line of a node. The tables stay as they are, and so they do for want of memory.
+    pub fn note_node(&mut self, number: usize)
+        requires { number < length self.old.nodes }
+        ensures { self.new ≡ self.old }
+    {
+        let key = node_key(&self.nodes[number]);
+        self.hints.note(self.alloc, key, number);
+    }
+
+    /// Gives the memory of the hints back. The tables stay as they are.
+    pub fn forget(&mut self)
+        ensures { self.new ≡ self.old }
+    {
+        self.hints = Hints::new(self.alloc);
     }
 
     /// Each node is linked to earlier nodes and names terms that stand. This is said, and nothing is done.

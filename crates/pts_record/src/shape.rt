@@ -1,6 +1,6 @@
 // The lines of a record's two tables.
 
-ghost use Rattle.std.specs.Prelude.{◌≡◌, IfOk};
+ghost use Rattle.std.specs.Prelude.{◌≡◌, ◌↔◌, IfOk, IsTrue};
 ghost use Rattle.pts_record.specs.declared.shape.RecordFault.TheVariants.{Memory};
 
 use pts_ctx::{Name, Sort};
@@ -32,6 +32,24 @@ impl Shape {
             Shape::Pi(x, t, b) => Shape::Pi(x.copy(alloc)?, *t, *b),
             Shape::Let(x, d, t, b) => Shape::Let(x.copy(alloc)?, *d, *t, *b),
         })
+    }
+
+    // Whether the two lines are the same, printed names and all.
+    pub(crate) fn same(&self, other: &Shape) -> bool
+        ensures { IsTrue result ↔ (self.now ≡ other.now) }
+    {
+        match (self, other) {
+            (Shape::Sort(s), Shape::Sort(r)) => s.0 == r.0,
+            (Shape::Const(c), Shape::Const(d)) => c.text() == d.text(),
+            (Shape::Var(i), Shape::Var(j)) => *i == *j,
+            (Shape::App(f, a), Shape::App(g, b)) => *f == *g && *a == *b,
+            (Shape::Lam(x, t, a), Shape::Lam(y, u, b)) => *t == *u && *a == *b && x.text() == y.text(),
+            (Shape::Pi(x, t, a), Shape::Pi(y, u, b)) => *t == *u && *a == *b && x.text() == y.text(),
+            (Shape::Let(x, d, t, a), Shape::Let(y, e, u, b)) => {
+                *d == *e && *t == *u && *a == *b && x.text() == y.text()
+            }
+            _ => false,
+        }
     }
 }
 
@@ -80,6 +98,15 @@ pub struct Node {
     pub first: usize,
     pub second: usize,
     pub third: usize,
+}
+
+impl Node {
+    // Whether the two lines are the same.
+    pub(crate) fn same(&self, other: &Node) -> bool
+        ensures { IsTrue result ↔ (self.now ≡ other.now) }
+    {
+        self == other
+    }
 }
 
 /// What is kept of a context: how many entries it has, and whether none of them is bare.
