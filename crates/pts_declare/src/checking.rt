@@ -20,7 +20,7 @@ use pts_check::concludes;
 use pts_ctx::{Context, System};
 use pts_infer::{FitFault, InferFault, Typed, infer_fitted, infer_term, infer_type};
 use pts_names::Name;
-use pts_record::Declaration;
+use pts_record::{Declaration, Record};
 use pts_rules::Meter;
 use pts_terms::Term;
 use std::alloc::Global;
@@ -69,7 +69,7 @@ fn check_type(
                 name,
                 body: None,
                 ty,
-                proof,
+                proof: finished(proof),
             };
             see_limits(front, &declaration);
             Ok(declaration)
@@ -101,7 +101,7 @@ fn check_body(
                 name,
                 body: Some(body),
                 ty,
-                proof,
+                proof: finished(proof),
             };
             see_limits(front, &declaration);
             Ok(declaration)
@@ -133,13 +133,22 @@ fn check_fit(
                 name,
                 body: Some(body),
                 ty,
-                proof,
+                proof: finished(proof),
             };
             see_limits(front, &declaration);
             Ok(declaration)
         }
         Err(fault) => Err(of_fit(fault)),
     }
+}
+
+// The record of a declaration. It grows no further, and so holds no hints.
+fn finished(proof: Record) -> Record
+    ensures { result ≡ proof }
+{
+    let mut proof = proof;
+    proof.forget();
+    proof
 }
 
 // A declaration that its record concludes is within limits, as the terms of records are.

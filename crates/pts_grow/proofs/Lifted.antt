@@ -1,13 +1,13 @@
 -- Terms that an operation leaves as they are.
 use Rattle.std.proofs.Common.{◌≡◌, ℕ, suc, ◌+◌, ◌≤◌, Result, Ok, Err, List, refl, sym, ap, ◌∙◌, arith, true}
-use Rattle.std.specs.Prelude.{IfOk}
+use Rattle.std.specs.Prelude.{IfOk, Some, slice_get}
 use Rattle.pts_names.specs.Name.{Name}
 use Rattle.pts_terms.specs.Tree.{Tree, Named, bare, sort, const, var, app, named_lam, named_pi, named_let, lift, put}
 use Rattle.pts_terms.specs.Limits.{free_of, depth_of, size_of, within}
 use Rattle.pts_terms.proofs.Free.{lift_past, put_past}
 use Rattle.pts_terms.proofs.Unnamed.{bare_depth, bare_size}
 use Rattle.pts_record.specs.declared.shape.Shape.{Shape}
-use Rattle.pts_record.specs.Table.{Tables, named_at, bare_at}
+use Rattle.pts_record.specs.Table.{Tables, named_at, named_trees, bare_at, unfold_shape, the_name}
 use Rattle.pts_record.proofs.Trees.{bare_of_named}
 use Rattle.pts_record.proofs.Faults.{within_true}
 use Rattle.pts_record.proofs.Compared.{free_below}
@@ -44,6 +44,13 @@ stands_within ss k h =
     let d : depth_of (named_at ss k) ≤ 2000 = omega (arith, h.0, depth_named ss k) in
     let s : size_of (named_at ss k) ≤ 1000000 = omega (arith, h.1, size_named ss k) in
     within_true (depth_of (named_at ss k)) (size_of (named_at ss k)) d s
+
+-- So is a line that is that of a term which stands.
+pub known_within : (ss : List Shape) (k : ℕ) (s r : Shape) → slice_get ss k ≡ Some s → slice_get ss k ≡ Some r → named_at ss k ≡ unfold_shape the_name (named_trees ss) r → (depth_of (bare_at ss k) ≤ 2000) × (size_of (bare_at ss k) ≤ 1000000) → within (unfold_shape the_name (named_trees ss) s) ≡ true
+known_within ss k s r e f n h =
+    let q : Some s ≡ Some r = sym e ∙ f in
+    let p : s ≡ r = cc in
+    ap (λ u. within (unfold_shape the_name (named_trees ss) u)) p ∙ ap within (sym n) ∙ stands_within ss k h
 
 -- A local definition is lifted part by part.
 pub let_lifted : (k n : ℕ) (x y : Name) (t D A B d a b : Named) → t ≡ named_let y D A B → x ≡ y → d ≡ lift k n D → a ≡ lift k n A → b ≡ lift (k + 1) n B → named_let x d a b ≡ lift k n t

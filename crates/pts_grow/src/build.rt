@@ -11,7 +11,8 @@ ghost use Rattle.pts_grow.specs.Keeps.{Keeps, StaysValid, IsTerm, WhyNot};
 use crate::TermFault;
 use pts_record::{Record, RecordFault, Shape, Term};
 
-/// Adds a line to the table of terms: a leaf, or a term made of terms of the record.
+/// The number of a line of the table of terms, a leaf or a term made of terms of the record: of an equal line that a hint
+/// leads to, and else of a new one.
 ///
 /// # Errors
 ///
@@ -25,9 +26,17 @@ pub fn add_line(proof: &mut Record, shape: Shape) -> Result<usize, TermFault>
     ensures valid { StaysValid proof.old proof.new }
     ensures nodes { proof.new.nodes ≡ proof.old.nodes }
 {
+    if let Some(number) = proof.known_term(&shape) {
+        let _ = proof.shape(number);
+        proof.limits(number);
+        return Ok(number);
+    }
     proof.linked();
     match proof.add_term(shape) {
-        Ok(number) => Ok(number),
+        Ok(number) => {
+            proof.note_term(number);
+            Ok(number)
+        }
         Err(RecordFault::TooLarge) => Err(TermFault::TooLarge),
         Err(RecordFault::Link(_) | RecordFault::Memory) => Err(TermFault::Memory),
     }
@@ -76,12 +85,11 @@ fn put_at(
     add_index(proof, at - 1)
 }
 
-/// Adds a term of the program.
+/// A term of the program, part by part. A part that stands and that a hint leads to keeps its number.
 ///
 /// # Errors
 ///
-/// `TooLarge` exactly where the term is not within limits.
-#[tactic(auto, using(crate::proofs::Grow::taken))]
+/// `TooLarge` exactly where the term is not within limits. No part of it is then added.
 pub fn take_in(proof: &mut Record, term: &Term) -> Result<usize, TermFault>
     ensures term { IfOk result (λ n. IsTerm proof.new n (named term.now)) }
     ensures within { OnOk result (within (named term.now) ≡ true) }
@@ -90,11 +98,53 @@ pub fn take_in(proof: &mut Record, term: &Term) -> Result<usize, TermFault>
     ensures valid { StaysValid proof.old proof.new }
     ensures nodes { proof.new.nodes ≡ proof.old.nodes }
 {
-    proof.linked();
-    match proof.add_tree(term) {
-        Ok(number) => Ok(number),
-        Err(RecordFault::TooLarge) => Err(TermFault::TooLarge),
-        Err(RecordFault::Link(_) | RecordFault::Memory) => Err(TermFault::Memory),
+    if term.depth() > 2000 || term.size() > 1_000_000 {
+        return Err(TermFault::TooLarge);
+    }
+    take_parts(proof, term)
+}
+
+// The same, where parts may have been added of a term that is not within limits.
+#[tactic(auto, using(crate::proofs::Grow::keeping, crate::proofs::Limits::limits))]
+fn take_parts(proof: &mut Record, term: &Term) -> Result<usize, TermFault>
+    ensures term { IfOk result (λ n. IsTerm proof.new n (named term.now)) }
+    ensures within { OnOk result (within (named term.now) ≡ true) }
+    ensures refused { IfErr result (λ e. WhyNot e (named term.now)) }
+    ensures keeps { Keeps proof.old proof.new }
+    ensures valid { StaysValid proof.old proof.new }
+    ensures nodes { proof.new.nodes ≡ proof.old.nodes }
+{
+    match term {
+        Term::Sort(s) => add_line(proof, Shape::Sort(*s)),
+        Term::Const(c) => {
+            let c = c.copy(proof.alloc())?;
+            add_line(proof, Shape::Const(c))
+        }
+        Term::Var(i) => add_line(proof, Shape::Var(*i)),
+        Term::App(f, a) => {
+            let f = take_parts(proof, f.get())?;
+            let a = take_parts(proof, a.get())?;
+            add_line(proof, Shape::App(f, a))
+        }
+        Term::Lam(x, t, b) => {
+            let x = x.copy(proof.alloc())?;
+            let t = take_parts(proof, t.get())?;
+            let b = take_parts(proof, b.get())?;
+            add_line(proof, Shape::Lam(x, t, b))
+        }
+        Term::Pi(x, t, b) => {
+            let x = x.copy(proof.alloc())?;
+            let t = take_parts(proof, t.get())?;
+            let b = take_parts(proof, b.get())?;
+            add_line(proof, Shape::Pi(x, t, b))
+        }
+        Term::Let(x, d, t, b) => {
+            let x = x.copy(proof.alloc())?;
+            let d = take_parts(proof, d.get())?;
+            let t = take_parts(proof, t.get())?;
+            let b = take_parts(proof, b.get())?;
+            add_line(proof, Shape::Let(x, d, t, b))
+        }
     }
 }
 

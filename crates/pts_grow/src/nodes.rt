@@ -12,7 +12,8 @@ ghost use Rattle.pts_grow.specs.Keeps.{Keeps, IsNode};
 use pts_record::{Node, Record};
 use std::alloc::AllocError;
 
-/// Adds a node whose links stand. The record stays valid where the node is an instance of its form.
+/// The number of a node whose links stand: of an equal line that a hint leads to, and else of a new one. The record stays
+/// valid where the node is an instance of its form.
 ///
 /// # Errors
 ///
@@ -27,8 +28,15 @@ pub fn push(proof: &mut Record, node: Node) -> Result<usize, AllocError>
     ensures keeps { Keeps proof.old proof.new }
     ensures valid { (S : Specification) (G : Front) → form_fault S G node.form (line_of (bare_trees proof.old.shapes) node) (told proof.old node.ctx) (told proof.old node.first) (told proof.old node.second) (told proof.old node.third) ≡ None → IsValid S G proof.old → IsValid S G proof.new }
 {
+    if let Some(number) = proof.known_node(&node) {
+        let _ = proof.node(number);
+        return Ok(number);
+    }
     match proof.add_node(node) {
-        Ok(number) => Ok(number),
+        Ok(number) => {
+            proof.note_node(number);
+            Ok(number)
+        }
         Err(_) => Err(AllocError),
     }
 }

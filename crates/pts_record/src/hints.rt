@@ -40,7 +40,11 @@ impl Hints {
     /// The line that was noted under a key, if that is not forgotten.
     pub(crate) fn line(&self, key: u64) -> Option<usize> {
         let slot = self.slots.get(self.place(key))?;
-        if slot.key == key { Some(slot.line) } else { None }
+        if slot.key == key {
+            Some(slot.line)
+        } else {
+            None
+        }
     }
 
     /// Notes a line under a key. Another hint may be forgotten for it. Without memory there may be no hint.

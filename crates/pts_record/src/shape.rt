@@ -43,8 +43,12 @@ impl Shape {
             (Shape::Const(c), Shape::Const(d)) => c.text() == d.text(),
             (Shape::Var(i), Shape::Var(j)) => *i == *j,
             (Shape::App(f, a), Shape::App(g, b)) => *f == *g && *a == *b,
-            (Shape::Lam(x, t, a), Shape::Lam(y, u, b)) => *t == *u && *a == *b && x.text() == y.text(),
-            (Shape::Pi(x, t, a), Shape::Pi(y, u, b)) => *t == *u && *a == *b && x.text() == y.text(),
+            (Shape::Lam(x, t, a), Shape::Lam(y, u, b)) => *t == *u
+                && *a == *b
+                && x.text() == y.text(),
+            (Shape::Pi(x, t, a), Shape::Pi(y, u, b)) => *t == *u
+                && *a == *b
+                && x.text() == y.text(),
             (Shape::Let(x, d, t, a), Shape::Let(y, e, u, b)) => {
                 *d == *e && *t == *u && *a == *b && x.text() == y.text()
             }

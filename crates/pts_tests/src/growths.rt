@@ -1,6 +1,6 @@
-use pts_grow::{TermFault, apply, lift, put, take_in};
-use pts_record::{Record, RecordFault, Shape, Sort, Term};
-use std::alloc::Global;
+use pts_grow::{TermFault, apply, lift, push, put, take_in};
+use pts_record::{Boxed, Form, Node, Record, RecordFault, Shape, Sort, Term};
+use std::alloc::{AllocError, Global};
 
 fn add(record: &mut Record, shape: Shape) -> Result<usize, RecordFault> {
     record.add_term(shape)
@@ -72,4 +72,53 @@ fn terms_are_made_of_terms(rt: HostRuntime) {
         }
         Err(_) => assert!(rt; false),
     }
+}
+
+// The application of `Var(7)` to itself.
+fn application(alloc: Global) -> Result<Term, AllocError> {
+    let function = Boxed::new(alloc, Term::Var(7))?;
+    let argument = Boxed::new(alloc, Term::Var(7))?;
+    Ok(Term::App(function, argument))
+}
+
+// Whether a term that is taken in twice is the same number, and two lines more, of which one is the index.
+fn takes_in_once(record: &mut Record, term: &Term) -> bool {
+    let first = take_in(record, term);
+    let terms = record.terms();
+    let second = take_in(record, term);
+    match (first, second) {
+        (Ok(first), Ok(second)) => first == second && terms == 2 && record.terms() == 2,
+        _ => false,
+    }
+}
+
+// Whether a node that is pushed twice is one node.
+fn pushes_once(record: &mut Record) -> bool {
+    let empty = Node {
+        form: Form::Empty,
+        ctx: 0,
+        subject: 0,
+        claim: 0,
+        first: 0,
+        second: 0,
+        third: 0,
+    };
+    let first = push(record, empty);
+    let second = push(record, empty);
+    match (first, second) {
+        (Ok(first), Ok(second)) => first == second && record.nodes() == 1,
+        _ => false,
+    }
+}
+
+#[test]
+fn equal_lines_are_kept_once(rt: HostRuntime) {
+    let Ok(term) = application(rt.alloc()) else {
+        panic!(rt; "no memory")
+    };
+    let mut record = Record::new(rt.alloc());
+    assert!(rt; takes_in_once(&mut record, &term));
+    assert!(rt; pushes_once(&mut record));
+    record.forget();
+    assert!(rt; record.terms() == 2 && record.nodes() == 1);
 }
