@@ -1,5 +1,5 @@
 -- How facts about a record stay while it grows.
-use Rattle.std.proofs.Common.{◌≡◌, ℕ, suc, ◌<◌, List, [], ◌∷◌, ◌++◌, length, take, map, refl, sym, ◌∙◌, ap, arith, Option, Some, None, true, false, Bool}
+use Rattle.std.proofs.Common.{◌≡◌, ℕ, suc, ◌<◌, List, [], ◌∷◌, ◌++◌, length, refl, sym, ◌∙◌, ap, arith, Option, Some, None, true, false, Bool}
 use Rattle.std.specs.Prelude.{if◌then◌else◌, nat_lt}
 use Rattle.std.proofs.Math.Seq.{take-length, take-append_seam}
 use Rattle.std.proofs.lemmas.List.{map-append, length-map, length-append}
@@ -75,26 +75,6 @@ valid_term r s b S G v = ap (first_fault_behind S G []) (lines_stay r.shapes r.n
 
 pub term_new : (r : Tables) (s : Shape) → IsTerm (with_term r s) (length r.shapes) (unfold_shape the_name (named_trees r.shapes) s)
 term_new r s = (omega (arith, length-append r.shapes (s ∷ [])), named_new r.shapes s)
-
--- A record with further terms: its nodes are the same.
-pub keeps_terms : (r q : Tables) → NodesLinked (length r.shapes) 0 r.nodes → take (length r.shapes) q.shapes ≡ r.shapes → q.nodes ≡ r.nodes → Keeps r q
-unfolding named_told
-keeps_terms r q b f e = record {
-  shapes = f;
-  nodes = ap (take (length r.nodes)) e ∙ take-length r.nodes;
-  says = λ k h.
-      ap (λ ns. look (said_behind [] (map (line_of (named_trees q.shapes)) ns)) k) e
-      ∙ ap (λ ls. look (said_behind [] ls) k) (lines_same (named_trees q.shapes) (named_trees r.shapes) r.nodes (length r.shapes) 0 b (λ i l. named_kept r.shapes q.shapes i f l));
-}
-
-pub valid_terms : (r q : Tables) → NodesLinked (length r.shapes) 0 r.nodes → take (length r.shapes) q.shapes ≡ r.shapes → q.nodes ≡ r.nodes → StaysValid r q
-unfolding first_fault
-valid_terms r q b f e S G v =
-    ap (λ ns. first_fault_behind S G [] (map (line_of (bare_trees q.shapes)) ns)) e
-    ∙ ap (first_fault_behind S G []) (lines_same (bare_trees q.shapes) (bare_trees r.shapes) r.nodes (length r.shapes) 0 b (λ i l. bare_stays r q i (keeps_terms r q b f e) l))
-    ∙ v
-
-pub ruleset taken = (keeps_terms, valid_terms)
 
 -- A record with a node more.
 abbrev pub with_node : Tables → Node → Tables
