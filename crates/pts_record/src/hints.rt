@@ -9,8 +9,9 @@ use std::mem;
 // How many slots a table has at first, a power of two.
 const FIRST: usize = 64;
 
-// How many slots are looked at for a key.
-const REACH: usize = 4;
+// How many slots are looked at for a key, at most. A table is at most half full, so that hardly a key needs as many. Few
+// would not do: where the hint to a part is lost, no term that is made of the part is found again.
+const REACH: usize = 64;
 
 // A key, and the number of a line that had it. Of a free slot both are 0.
 #[derive(Clone, Copy)]
@@ -84,8 +85,8 @@ impl Hints {
         for step in 0..REACH {
             let place = first.wrapping_add(step) & last;
             match self.slots.get(place) {
-                Some(slot) if slot.key == FREE.key || slot.key == key => return place,
-                _ => {}
+                Some(slot) if slot.key != FREE.key && slot.key != key => {}
+                _ => return place,
             }
         }
         first

@@ -74,20 +74,24 @@ fn terms_are_made_of_terms(rt: HostRuntime) {
     }
 }
 
-// The application of `Var(7)` to itself.
-fn application(alloc: Global) -> Result<Term, AllocError> {
-    let function = Boxed::new(alloc, Term::Var(7))?;
-    let argument = Boxed::new(alloc, Term::Var(7))?;
-    Ok(Term::App(function, argument))
+// `Var(0)` as a function on itself, and on that application, until the term has this depth.
+fn nested(alloc: Global, depth: usize) -> Result<Term, AllocError> {
+    let mut term = Term::Var(0);
+    for _ in 1..depth {
+        let function = Boxed::new(alloc, Term::Var(0))?;
+        let argument = Boxed::new(alloc, term)?;
+        term = Term::App(function, argument);
+    }
+    Ok(term)
 }
 
-// Whether a term that is taken in twice is the same number, and two lines more, of which one is the index.
-fn takes_in_once(record: &mut Record, term: &Term) -> bool {
+// Whether a term that is taken in twice is the same number, and so many lines.
+fn takes_in_once(record: &mut Record, term: &Term, lines: usize) -> bool {
     let first = take_in(record, term);
     let terms = record.terms();
     let second = take_in(record, term);
     match (first, second) {
-        (Ok(first), Ok(second)) => first == second && terms == 2 && record.terms() == 2,
+        (Ok(first), Ok(second)) => first == second && terms == lines && record.terms() == lines,
         _ => false,
     }
 }
@@ -113,12 +117,12 @@ fn pushes_once(record: &mut Record) -> bool {
 
 #[test]
 fn equal_lines_are_kept_once(rt: HostRuntime) {
-    let Ok(term) = application(rt.alloc()) else {
+    let Ok(term) = nested(rt.alloc(), 2000) else {
         panic!(rt; "no memory")
     };
     let mut record = Record::new(rt.alloc());
-    assert!(rt; takes_in_once(&mut record, &term));
+    assert!(rt; takes_in_once(&mut record, &term, 2000));
     assert!(rt; pushes_once(&mut record));
     record.forget();
-    assert!(rt; record.terms() == 2 && record.nodes() == 1);
+    assert!(rt; record.terms() == 2000 && record.nodes() == 1);
 }
