@@ -13,6 +13,9 @@ const FIRST: usize = 64;
 // would not do: where the hint to a part is lost, no term that is made of the part is found again.
 const REACH: usize = 64;
 
+// An odd number whose bits are as good as random: 2^64 divided by the golden ratio.
+const MULTIPLIER: u64 = 0x9e37_79b9_7f4a_7c15;
+
 // A key, and the number of a line that had it. Of a free slot both are 0.
 #[derive(Clone, Copy)]
 struct Hint {
@@ -96,27 +99,32 @@ impl Hints {
 /// The key of a term's line.
 pub(crate) fn term_key(shape: &Shape) -> u64 {
     let key = match shape {
-        Shape::Sort(s) => folded(1, u64::from(s.0)),
-        Shape::Const(c) => named(2, c),
-        Shape::Var(i) => folded(3, u64::from(*i)),
-        Shape::App(f, a) => linked(linked(4, *f), *a),
-        Shape::Lam(x, t, b) => linked(linked(named(5, x), *t), *b),
-        Shape::Pi(x, t, b) => linked(linked(named(6, x), *t), *b),
-        Shape::Let(x, d, t, b) => linked(linked(linked(named(7, x), *d), *t), *b),
+        Shape::Sort(s) => folded(kind(1), u64::from(s.0)),
+        Shape::Const(c) => named(kind(2), c),
+        Shape::Var(i) => folded(kind(3), u64::from(*i)),
+        Shape::App(f, a) => linked(linked(kind(4), *f), *a),
+        Shape::Lam(x, t, b) => linked(linked(named(kind(5), x), *t), *b),
+        Shape::Pi(x, t, b) => linked(linked(named(kind(6), x), *t), *b),
+        Shape::Let(x, d, t, b) => linked(linked(linked(named(kind(7), x), *d), *t), *b),
     };
     spread(key)
 }
 
 /// The key of a node's line.
 pub(crate) fn node_key(node: &Node) -> u64 {
-    let terms = linked(linked(8 + node.form as u64, node.subject), node.claim);
+    let terms = linked(linked(kind(8 + node.form as u64), node.subject), node.claim);
     let premises = linked(linked(linked(terms, node.first), node.second), node.third);
     spread(linked(premises, node.ctx))
 }
 
+// A key from which those of one kind of line begin.
+fn kind(number: u64) -> u64 {
+    folded(0, number)
+}
+
 // A key with a number more.
 fn folded(key: u64, number: u64) -> u64 {
-    (key.rotate_left(5) ^ number).wrapping_mul(0x9e37_79b9_7f4a_7c15)
+    (key.rotate_left(5) ^ number).wrapping_mul(MULTIPLIER)
 }
 
 // A key with the number of a line more.
@@ -131,7 +139,8 @@ fn named(key: u64, name: &Name) -> u64 {
     folded(key, hasher.finish())
 }
 
-// A key whose high bits are in its low bits too.
+// A key all bits of which are mixed into its low ones, which give the place.
 fn spread(key: u64) -> u64 {
-    key ^ key >> 32
+    let mixed = (key ^ key >> 32).wrapping_mul(MULTIPLIER);
+    mixed ^ mixed >> 32
 }
