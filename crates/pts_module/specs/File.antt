@@ -1,5 +1,5 @@
 -- What a module file is: the list of its lines.
-use Rattle.std.specs.Prelude.{◌≡◌, ℕ, suc, List, [], ◌∷◌, ◌++◌, map, Result, Ok, Err}
+use Rattle.std.specs.Prelude.{◌≡◌, ℕ, suc, List, [], ◌∷◌, ◌++◌, map, true, Result, Ok, Err}
 use Rattle.pts_names.specs.Name.{Name}
 use Rattle.pts_parser.specs.declared.fault.ReadFault.{ReadFault}
 use Rattle.pts_lines.specs.declared.command.Declaring.{Declaring}
@@ -17,7 +17,7 @@ use Rattle.pts_module.specs.declared.stage.Item.{Item}
 use Rattle.pts_module.specs.declared.file.Module.{Module as TheModule}
 use Rattle.pts_module.specs.declared.file.ModuleLine.{ModuleLine}
 use Rattle.pts_module.specs.Text.{lines_of}
-use Rattle.pts_module.specs.Lines.{Entry, passed, fixed, uses, declares, line_at}
+use Rattle.pts_module.specs.Lines.{Entry, passed, fixed, uses, declares, line_at, name_of, has_short_name}
 
 -- The lines that say something, each with its number: what is used, the parameters, and the declarations.
 pub record File : Type 0 where
@@ -51,6 +51,11 @@ read_lines asked s n f (line ∷ lines) = behind_line n f (line_at asked s line)
 -- The file of the module with this name that the bytes are, or the first line that breaks it, and why.
 unfoldable pub module_of : Name → List ℕ → Result File (ℕ × Why)
 module_of asked bytes = read_lines asked Format 1 (record { used = []; assumed = []; stated = [] }) (lines_of bytes)
+
+-- Each declares a plain name of at most 63 bytes.
+abbrev pub AllShort : List (ℕ × (Declaring × Line)) → Type 0
+AllShort [] = Unit {0}
+AllShort (r ∷ rs) = (has_short_name (name_of r.1.1) ≡ true) × AllShort rs
 
 -- What the program's values stand for.
 abbrev pub entry_of : Item → Entry

@@ -1,7 +1,7 @@
-ghost use Rattle.std.specs.Prelude.{◌≡◌, Ok, IfOk, IfErr};
+ghost use Rattle.std.specs.Prelude.{◌≡◌, true, Ok, IfOk, IfErr};
 ghost use Rattle.pts_lines.specs.Seen.{declaration_of};
-ghost use Rattle.pts_module.specs.Lines.{declares};
-ghost use Rattle.pts_module.specs.File.{file_of, stated_of, with_entry, entry_of, module_of, fault_at, Refuses};
+ghost use Rattle.pts_module.specs.Lines.{declares, is_short};
+ghost use Rattle.pts_module.specs.File.{file_of, stated_of, with_entry, entry_of, module_of, fault_at, Refuses, AllShort};
 
 use crate::fault::{ModuleFault, Refusal, Why};
 use crate::item::line_at;
@@ -35,8 +35,18 @@ pub struct Module {
 /// `BadFile` names the first line that breaks the format, or one past the last where `end` is missing. It is `Read` for
 /// the tokens and the grammar of a line that begins with the word of a parameter or a declaration and may stand there,
 /// and `Form` for all else.
-#[tactic(auto, unfolding(crate::specs::File::module_of))]
 pub fn read_module(alloc: Global, name: &Name, bytes: &[u8]) -> Result<Module, ModuleFault>
+    ensures module { IfOk result (λ m. module_of name.now bytes.now ≡ Ok (file_of m)) }
+    ensures short { IfOk result (λ m. is_short name.now ≡ true) }
+    ensures names { IfOk result (λ m. AllShort (file_of m).stated) }
+    ensures refused { IfErr result (λ e. Refuses name.now bytes.now e) }
+{
+    read_all(alloc, name, bytes)
+}
+
+// The same, of which the names aren't spoken of.
+#[tactic(auto, unfolding(crate::specs::File::module_of))]
+fn read_all(alloc: Global, name: &Name, bytes: &[u8]) -> Result<Module, ModuleFault>
     ensures module { IfOk result (λ m. module_of name.now bytes.now ≡ Ok (file_of m)) }
     ensures refused { IfErr result (λ e. Refuses name.now bytes.now e) }
 {

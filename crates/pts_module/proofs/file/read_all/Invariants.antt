@@ -2,7 +2,7 @@ use Rattle.std.proofs.Common.{◌≡◌, ◌≤◌, ◌+◌, length, []}
 use Rattle.pts_module.specs.declared.stage.Stage.TheVariants.{Format}
 use Rattle.pts_module.specs.Text.{lines_of}
 use Rattle.pts_module.specs.File.{read_lines, file_of}
-use Rattle.pts_module.proofs.file.read_module.Given as goal
+use Rattle.pts_module.proofs.file.read_all.Given as goal
 
 abbrev pub invariant-loop-line : goal.invariant-loop-line
 invariant-loop-line l = record {
