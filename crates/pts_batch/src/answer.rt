@@ -1,0 +1,237 @@
+// Batches of one module.
+
+ghost use Rattle.std.specs.Prelude.{◌≡◌, true, ◌+◌, ◌++◌, ◌∷◌, ℕ, [], Ok, None, IfOk, codes, string_bytes, nat_le};
+ghost use Rattle.std.specs.Fmt.{decimal};
+ghost use Rattle.pts_ctx.specs.Front.{bare_front};
+ghost use Rattle.pts_rules.specs.Derives.{Legal};
+ghost use Rattle.pts_module.specs.File.{AllShort, file_of, module_of};
+ghost use Rattle.pts_module.specs.Lines.{is_short};
+ghost use Rattle.pts_declare.specs.Answered.{fault_text};
+ghost use Rattle.pts_batch.specs.Batches.{Answers, refusal, bad_line, at_line, unbuilt_line, why_text, with_entries};
+ghost use Rattle.pts_batch.specs.Calls.{AnswersBadFile, AnswersFault};
+ghost use Rattle.pts_batch.specs.Evidence.{entries_of, MayFollow};
+ghost use Rattle.pts_batch.specs.Shown.{answer_seen, Evident};
+
+use crate::lines::entry_lines;
+use crate::loading::{LoadFault, Loading, load};
+use crate::world::{Batch, World};
+use pts_ctx::{Context, System};
+use pts_declare::{DeclareFault, fault_text, read_text};
+use pts_module::{Module, ModuleFault, Why, read_module};
+use pts_names::{List, Name, Text};
+use pts_rules::Meter;
+use std::alloc::{AllocError, Global};
+
+/// How many entries a context has at most.
+pub const ROOM: usize = 200_000;
+
+/// Checks the file of the module with this name on a budget of so many units, over the empty context. Its declarations
+/// enter behind the label of the module, and each is printed with its type; or one line says why the module is refused,
+/// and nothing enters.
+///
+/// Refusals come in this order: `BadFile` with the first line that breaks the format; `NotBuilt` with the first line that
+/// uses a module or has a parameter; `Declaration` with the first line whose statement is refused; `ContextFull` where
+/// there are more than 200,000 declarations.
+pub fn batch(
+    alloc: Global,
+    world: &World,
+    name: &Name,
+    bytes: &[u8],
+    budget: u64,
+) -> Result<Batch, AllocError>
+    ensures answer { IfOk result (λ r. Answers world.now.system name.now bytes.now budget (answer_seen r) r.units) }
+    ensures evidence { IfOk result (λ r. Evident world.now.system r) }
+{
+    match read_module(alloc, name, bytes) {
+        Ok(file) => batch_file(alloc, world, name, bytes, &file, budget),
+        Err(fault) => bad_file(alloc, name, &fault),
+    }
+}
+
+// A file that breaks the format.
+fn bad_file(alloc: Global, name: &Name, fault: &ModuleFault) -> Result<Batch, AllocError>
+    ensures answer { IfOk result (λ r. AnswersBadFile name.now fault.now (answer_seen r)) }
+    ensures units { IfOk result (λ r. r.units ≡ 0) }
+    ensures evidence { IfOk result (λ r. (r.declarations ≡ []) × (r.context.entries ≡ [])) }
+{
+    match fault {
+        ModuleFault::BadFile(line, why) => bad_line(alloc, name, *line, why),
+        ModuleFault::Memory => Err(AllocError),
+    }
+}
+
+// A line that breaks the format.
+fn bad_line(alloc: Global, name: &Name, line: usize, why: &Why) -> Result<Batch, AllocError>
+    ensures answer { IfOk result (λ r. answer_seen r ≡ refusal name.now (bad_line line why.now)) }
+    ensures units { IfOk result (λ r. r.units ≡ 0) }
+    ensures evidence { IfOk result (λ r. (r.declarations ≡ []) × (r.context.entries ≡ [])) }
+{
+    let why = why_text(alloc, why)?;
+    let text = format!(in alloc; "BadFile {line} {why}")?;
+    refusal(alloc, name, text.as_str(), 0)
+}
+
+fn why_text(alloc: Global, why: &Why) -> Result<String, AllocError>
+    ensures { IfOk result (λ s. string_bytes s ≡ why_text why.now) }
+{
+    match why {
+        Why::Form => String::from_str(alloc, "Form"),
+        Why::Read(fault) => read_text(alloc, fault),
+    }
+}
+
+// A file in its format.
+fn batch_file(
+    alloc: Global,
+    world: &World,
+    name: &Name,
+    bytes: &[u8],
+    file: &Module,
+    budget: u64,
+) -> Result<Batch, AllocError>
+    requires read { module_of name.now bytes.now ≡ Ok (file_of file.now) }
+    requires short { is_short name.now ≡ true }
+    requires names { AllShort (file_of file.now).stated }
+    ensures answer { IfOk result (λ r. Answers world.now.system name.now bytes.now budget (answer_seen r) r.units) }
+    ensures evidence { IfOk result (λ r. Evident world.now.system r) }
+{
+    match unbuilt_line(file) {
+        Some(line) => not_built(alloc, name, line),
+        None => batch_lines(alloc, world, name, bytes, file, budget),
+    }
+}
+
+// The first line of a kind that is not built.
+fn unbuilt_line(file: &Module) -> Option<usize>
+    ensures { result ≡ unbuilt_line (file_of file.now) }
+{
+    if let Some(line) = file.uses.first() {
+        return Some(line.0);
+    }
+    match file.parameters.first() {
+        Some(line) => Some(line.0),
+        None => None,
+    }
+}
+
+fn not_built(alloc: Global, name: &Name, line: usize) -> Result<Batch, AllocError>
+    ensures answer { IfOk result (λ r. answer_seen r ≡ refusal name.now (codes "NotBuilt " ++ decimal line)) }
+    ensures units { IfOk result (λ r. r.units ≡ 0) }
+    ensures evidence { IfOk result (λ r. (r.declarations ≡ []) × (r.context.entries ≡ [])) }
+{
+    let text = format!(in alloc; "NotBuilt {line}")?;
+    refusal(alloc, name, text.as_str(), 0)
+}
+
+// A file with declarations alone.
+fn batch_lines(
+    alloc: Global,
+    world: &World,
+    name: &Name,
+    bytes: &[u8],
+    file: &Module,
+    budget: u64,
+) -> Result<Batch, AllocError>
+    requires read { module_of name.now bytes.now ≡ Ok (file_of file.now) }
+    requires short { is_short name.now ≡ true }
+    requires names { AllShort (file_of file.now).stated }
+    requires built { unbuilt_line (file_of file.now) ≡ None }
+    ensures answer { IfOk result (λ r. Answers world.now.system name.now bytes.now budget (answer_seen r) r.units) }
+    ensures evidence { IfOk result (λ r. Evident world.now.system r) }
+{
+    let mut meter = Meter::new(budget);
+    let lines = file.declarations.as_slice();
+    match load(alloc, &world.system, name, lines, &mut meter) {
+        Ok(loading) => finish(alloc, &world.system, name, loading, meter.spent()),
+        Err(fault) => stopped(alloc, &world.system, name, &fault, meter.spent()),
+    }
+}
+
+// All statements have passed.
+fn finish(
+    alloc: Global,
+    system: &System,
+    name: &Name,
+    loading: Loading,
+    units: u64,
+) -> Result<Batch, AllocError>
+    requires entries { loading.context.entries ≡ entries_of loading.declarations.items }
+    requires labels { loading.context.labels ≡ (name.now, 0) ∷ [] }
+    requires evidence { MayFollow system.now [] loading.declarations.items }
+    ensures answer { IfOk result (λ r. answer_seen r ≡ with_entries system.now.sorts name.now loading.context.entries) }
+    ensures units { IfOk result (λ r. r.units ≡ units) }
+    ensures entries { IfOk result (λ r. r.context.entries ≡ entries_of r.declarations) }
+    ensures evidence { IfOk result (λ r. MayFollow system.now [] r.declarations) }
+{
+    if loading.context.len() > ROOM {
+        return refusal(alloc, name, "ContextFull 0", units);
+    }
+    let lines = entry_lines(alloc, system, loading.declarations.as_slice())?;
+    let Loading {
+        context,
+        declarations,
+    } = loading;
+    Ok(Batch {
+        lines: List::of(lines),
+        declarations: List::of(declarations),
+        context,
+        units,
+        refused: false,
+    })
+}
+
+// A statement has not passed.
+fn stopped(
+    alloc: Global,
+    system: &System,
+    name: &Name,
+    fault: &LoadFault,
+    units: u64,
+) -> Result<Batch, AllocError>
+    ensures answer { IfOk result (λ r. AnswersFault system.now.sorts name.now fault.now (answer_seen r)) }
+    ensures units { IfOk result (λ r. r.units ≡ units) }
+    ensures evidence { IfOk result (λ r. (r.declarations ≡ []) × (r.context.entries ≡ [])) }
+{
+    match fault {
+        LoadFault::Refused(line, fault) => {
+            refused_line(alloc, system, name, *line, fault, units)
+        }
+        LoadFault::Memory => Err(AllocError),
+    }
+}
+
+// The statement on a line is refused.
+fn refused_line(
+    alloc: Global,
+    system: &System,
+    name: &Name,
+    line: usize,
+    fault: &DeclareFault,
+    units: u64,
+) -> Result<Batch, AllocError>
+    ensures answer { IfOk result (λ r. answer_seen r ≡ refusal name.now (at_line line (fault_text system.now.sorts fault.now))) }
+    ensures units { IfOk result (λ r. r.units ≡ units) }
+    ensures evidence { IfOk result (λ r. (r.declarations ≡ []) × (r.context.entries ≡ [])) }
+{
+    let why = fault_text(alloc, system, fault)?;
+    let text = format!(in alloc; "Declaration {line} {why}")?;
+    refusal(alloc, name, text.as_str(), units)
+}
+
+// A refusal: one line, and nothing enters.
+fn refusal(alloc: Global, name: &Name, text: &str, units: u64) -> Result<Batch, AllocError>
+    ensures answer { IfOk result (λ r. answer_seen r ≡ refusal name.now text.now) }
+    ensures units { IfOk result (λ r. r.units ≡ units) }
+    ensures evidence { IfOk result (λ r. (r.declarations ≡ []) × (r.context.entries ≡ [])) }
+{
+    let line = format!(in alloc; "refused {name} {text}")?;
+    let mut lines = Vec::new(alloc);
+    lines.push(Text::of(line))?;
+    Ok(Batch {
+        lines: List::of(lines),
+        declarations: List::of(Vec::new(alloc)),
+        context: Context::new(alloc),
+        units,
+        refused: true,
+    })
+}

@@ -1,0 +1,16 @@
+//! Batches: the file of a module is checked, and its declarations enter the empty front.
+//! The lines, the entries and the units are those of the definition, and each declaration has a record that concludes it.
+//! Stands on module files and on the declaring of statements.
+#![tactic(auto)]
+
+mod answer;
+mod laws;
+mod lines;
+mod loading;
+#[cfg(test)]
+mod tests;
+mod world;
+
+pub use answer::{ROOM, batch};
+pub use laws::modules_have_one_answer;
+pub use world::{Batch, World};

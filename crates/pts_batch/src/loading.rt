@@ -1,0 +1,195 @@
+// The statements of a module, one after another.
+
+ghost use Rattle.std.specs.Prelude.{◌≡◌, ◌≤◌, ◌<◌, ◌+◌, ◌∷◌, ◌++◌, ℕ, [], length, map, true, None, IfOk, OnOk, IfErr};
+ghost use Rattle.pts_ctx.specs.Front.{Fresh, Global};
+ghost use Rattle.pts_ctx.specs.Entries.{global_of};
+ghost use Rattle.pts_ctx.specs.Seen.{global_within, label_place};
+ghost use Rattle.pts_rules.specs.Meter.{left};
+ghost use Rattle.pts_reduce.specs.Given.{Later};
+ghost use Rattle.pts_costs.specs.Laws.{WithinBudget};
+ghost use Rattle.pts_typing.specs.Typing.{comes};
+ghost use Rattle.pts_check.specs.Entered.{declared};
+ghost use Rattle.pts_declare.specs.Statements.{name_of, is_declarable};
+ghost use Rattle.pts_declare.specs.Declaring.{Declares};
+ghost use Rattle.pts_declare.specs.Answered.{MayEnter, NotDeclared};
+ghost use Rattle.pts_batch.specs.Evidence.{entries_of, MayFollow, statement_of, numbered, AllDeclarable};
+ghost use Rattle.pts_batch.specs.Loading.{Loads, entered};
+ghost use Rattle.pts_batch.specs.Calls.{Stops, IsRefusedAt};
+
+use pts_ctx::{Context, Entry, System};
+use pts_declare::{DeclareFault, assume, define};
+use pts_module::ModuleLine;
+use pts_names::Name;
+use pts_record::Declaration;
+use pts_rules::Meter;
+use std::alloc::{AllocError, Global};
+
+/// The declarations that entered, and the front that they make.
+#[derive(Drop)]
+pub struct Loading {
+    pub context: Context,
+    pub declarations: Vec<Declaration>,
+}
+
+/// Why the statement on a line does not enter.
+#[derive(Drop)]
+pub enum LoadFault {
+    Refused(usize, DeclareFault),
+    Memory,
+}
+
+impl From<AllocError> for LoadFault {
+    ghost use Rattle.std.specs.Prelude.{◌≡◌};
+    ghost use Rattle.pts_batch.specs.declared.loading.LoadFault.{LoadFault};
+
+    ghost from_gives = { λ _ fault. fault ≡ LoadFault.Memory };
+
+    fn from(_: AllocError) -> LoadFault {
+        LoadFault::Memory
+    }
+}
+
+/// The declarations of the lines of the module with this label, over the empty front, in which the label is marked first.
+///
+/// # Errors
+///
+/// The first line whose statement is refused, with its refusal. `Memory`.
+pub fn load(
+    alloc: Global,
+    system: &System,
+    label: &Name,
+    lines: &[(usize, ModuleLine)],
+    meter: &mut Meter,
+) -> Result<Loading, LoadFault>
+    requires label { length label.now ≤ 63 }
+    requires names { AllDeclarable lines.now }
+    ensures loaded { IfOk result (λ l. Loads system.now label.now [] (map numbered lines.now) (left meter.old) (entered l.context.entries) (left meter.new)) }
+    ensures labels { IfOk result (λ l. l.context.labels ≡ (label.now, 0) ∷ []) }
+    ensures entries { IfOk result (λ l. l.context.entries ≡ entries_of l.declarations.items) }
+    ensures evidence { IfOk result (λ l. MayFollow system.now [] l.declarations.items) }
+    ensures refused { IfErr result (λ e. Stops (Loads system.now label.now [] (map numbered lines.now)) (left meter.old) (left meter.new) e) }
+    ensures later { Later meter.old meter.new }
+{
+    let mut loading = begin(alloc, label, lines.len())?;
+    for line in lines {
+        match loading.add(alloc, system, label, &line.1, meter) {
+            Ok(()) => {}
+            Err(fault) => return Err(refused_at(line.0, fault)),
+        }
+    }
+    Ok(loading)
+}
+
+// The refusal of the statement on a line.
+fn refused_at(line: usize, fault: DeclareFault) -> LoadFault
+    ensures { IsRefusedAt line fault result }
+{
+    match fault {
+        DeclareFault::Memory => LoadFault::Memory,
+        other => LoadFault::Refused(line, other),
+    }
+}
+
+// The empty front with the label, and room for so many declarations.
+fn begin(alloc: Global, label: &Name, count: usize) -> Result<Loading, AllocError>
+    ensures entries { IfOk result (λ l. l.context.entries ≡ []) }
+    ensures labels { IfOk result (λ l. l.context.labels ≡ (label.now, 0) ∷ []) }
+    ensures declarations { IfOk result (λ l. l.declarations.items ≡ []) }
+    ensures room { IfOk result (λ l. count ≤ l.context.spare_entries) }
+{
+    let mut context = Context::new(alloc);
+    context.reserve(count, 1)?;
+    context.mark(label.copy(alloc)?);
+    Ok(Loading {
+        context,
+        declarations: Vec::new(alloc),
+    })
+}
+
+impl Loading {
+    // Declares the statement on a line and enters it.
+    fn add(
+        &mut self,
+        alloc: Global,
+        system: &System,
+        label: &Name,
+        line: &ModuleLine,
+        meter: &mut Meter,
+    ) -> Result<(), DeclareFault>
+        requires label { length label.now ≤ 63 }
+        requires name { is_declarable (name_of (statement_of line.now)) ≡ true }
+        requires room { 0 < self.old.context.spare_entries }
+        ensures entered { OnOk result ((d : Declaration) × WithinBudget (Declares system.now label.now self.old.context.entries (statement_of line.now)) (left meter.old) (comes (declared d)) (left meter.new) × MayEnter system.now self.old.context.entries d × (self.new.context.entries ≡ self.old.context.entries ++ declared d ∷ []) × (self.new.declarations.items ≡ self.old.declarations.items ++ d ∷ [])) }
+        ensures refused { IfErr result (λ e. NotDeclared (Declares system.now label.now self.old.context.entries (statement_of line.now)) e (left meter.old) (left meter.new)) }
+        ensures labels { self.new.context.labels ≡ self.old.context.labels }
+        ensures spare { self.old.context.spare_entries ≤ self.new.context.spare_entries + 1 }
+        ensures later { Later meter.old meter.new }
+    {
+        match declare(alloc, system, &self.context, label, line, meter) {
+            Ok(declaration) => match self.enter(alloc, declaration) {
+                Ok(()) => Ok(()),
+                Err(_) => Err(DeclareFault::Memory),
+            },
+            Err(fault) => Err(fault),
+        }
+    }
+
+    // Enters a declaration.
+    fn enter(&mut self, alloc: Global, declaration: Declaration) -> Result<(), AllocError>
+        requires fresh { Fresh declaration.name self.old.context.entries }
+        requires within { global_within (declared declaration) ≡ true }
+        requires room { 0 < self.old.context.spare_entries }
+        ensures entered { OnOk result (self.new.context.entries ≡ self.old.context.entries ++ declared declaration ∷ []) }
+        ensures declared { OnOk result (self.new.declarations.items ≡ self.old.declarations.items ++ declaration ∷ []) }
+        ensures labels { self.new.context.labels ≡ self.old.context.labels }
+        ensures spare { self.old.context.spare_entries ≤ self.new.context.spare_entries + 1 }
+    {
+        let key = declaration.name.copy(alloc)?;
+        let entry = entry_of(alloc, &declaration)?;
+        self.declarations.push(declaration)?;
+        self.context.push(entry, key);
+        Ok(())
+    }
+}
+
+// The declaration of the statement on a line.
+fn declare(
+    alloc: Global,
+    system: &System,
+    front: &Context,
+    label: &Name,
+    line: &ModuleLine,
+    meter: &mut Meter,
+) -> Result<Declaration, DeclareFault>
+    requires label { length label.now ≤ 63 }
+    requires name { is_declarable (name_of (statement_of line.now)) ≡ true }
+    ensures declared { IfOk result (λ d. WithinBudget (Declares system.now label.now front.now.entries (statement_of line.now)) (left meter.old) (comes (declared d)) (left meter.new)) }
+    ensures refused { IfErr result (λ e. NotDeclared (Declares system.now label.now front.now.entries (statement_of line.now)) e (left meter.old) (left meter.new)) }
+    ensures evidence { IfOk result (λ d. MayEnter system.now front.now.entries d) }
+    ensures later { Later meter.old meter.new }
+{
+    match line {
+        ModuleLine::Assume(name, ty) => assume(alloc, system, front, label, name, ty, meter),
+        ModuleLine::Define(name, Some(ty), body) => {
+            define(alloc, system, front, label, name, Some(ty), body, meter)
+        }
+        ModuleLine::Define(name, None, body) => {
+            define(alloc, system, front, label, name, None, body, meter)
+        }
+    }
+}
+
+// The entry of a declaration.
+fn entry_of(alloc: Global, declaration: &Declaration) -> Result<Entry, AllocError>
+    ensures { IfOk result (λ e. global_of e ≡ declared declaration.now) }
+{
+    let body = match &declaration.body {
+        Some(body) => Some(body.copy(alloc)?),
+        None => None,
+    };
+    Ok(Entry {
+        name: declaration.name.copy(alloc)?,
+        body,
+        ty: declaration.ty.copy(alloc)?,
+    })
+}
