@@ -5,4 +5,5 @@ pub mod Commands
 pub mod Systems
 pub mod Runs
 pub mod Formats
+pub mod Batches
 pub mod Commanded

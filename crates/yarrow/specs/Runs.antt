@@ -1,5 +1,5 @@
 -- What a run of the program does, by what its source and its sink show of it.
-use Rattle.std.specs.Prelude.{◌≡◌, ℕ, ◌≤◌, ◌⊎◌, List, [], length, take, codes, Option, IfSome}
+use Rattle.std.specs.Prelude.{◌≡◌, ℕ, ◌≤◌, ◌⊎◌, List, [], length, take, codes, Option, None, IfSome}
 use Rattle.std.specs.Io.KnownBytes.{append_known}
 use Rattle.pts_io.specs.Counts.{raised, Rose}
 use Rattle.pts_names.specs.Name.{Name}
@@ -21,6 +21,14 @@ pub record Outside : Type 0 where
   pub written_after : Option (List ℕ)
   pub write_faults : ℕ
   pub write_faults_after : ℕ
+
+-- What a call that is given no source shows of the outside.
+abbrev pub only_sink : (written written_after : Option (List ℕ)) → (write_faults write_faults_after : ℕ) → Outside
+only_sink w v f g = record { left = None; given = 0; given_after = 0; read_faults = 0; read_faults_after = 0; written = w; written_after = v; write_faults = f; write_faults_after = g }
+
+-- Nothing was taken from the source, and it did not fail.
+abbrev pub TakesNothing : Outside → Type 0
+TakesNothing o = (o.given_after ≡ o.given) × (o.read_faults_after ≡ o.read_faults)
 
 -- The line was printed, and nothing else.
 abbrev pub Prints : Outside → List ℕ → Type 0
@@ -66,5 +74,5 @@ pub record IsUsageRun (o : Outside) (status : ℕ) (entries : List (Global Name)
   pub usage : status ≡ 2 → Prints o (codes "usage\n") × IsQuiet o
   pub write_failed : status ≡ 5 → Rose o.write_faults o.write_faults_after × PrintsPart o (codes "usage\n")
   pub known : (status ≡ 2) ⊎ (status ≡ 5)
-  pub nothing_taken : (o.given_after ≡ o.given) × (o.read_faults_after ≡ o.read_faults)
+  pub nothing_taken : TakesNothing o
   pub none_entered : entries ≡ []

@@ -28,13 +28,21 @@ HasFile h name bytes = IfSome h.files (λ files. file_of files name ≡ Some byt
 abbrev pub IsReady : Holdings → List ℕ → Specification → Type 0
 IsReady h name S = (h.faults_after ≡ h.faults) × ((bytes : List ℕ) × HasFile h name bytes × (system_of bytes ≡ Ok S))
 
--- There is no system for this reason. The library fails only where its count of faults rises.
+-- The file of this name was not read, for this reason. The library fails only where its count of faults rises.
+abbrev pub IsUnread : Holdings → List ℕ → Unready → Type 0
+IsUnread h name LibraryFailed = Rose h.faults h.faults_after
+IsUnread h name NoFile = (h.faults_after ≡ h.faults) × (h.missing_after ≡ raised h.missing 1) × IfSome h.files (λ files. file_of files name ≡ None)
+IsUnread h name TooLong = (h.faults_after ≡ h.faults) × (h.too_long_after ≡ raised h.too_long 1) × IfSome h.files (λ files. IsSomeAnd (file_of files name) (λ bytes. 16777216 < length bytes))
+IsUnread h name (Refused e) = ⊥
+IsUnread h name NoMemory = Unit {0}
+
+-- There is no system for this reason: the file was not read, or it writes none.
 abbrev pub IsUnready : Holdings → List ℕ → Unready → Type 0
-IsUnready h name LibraryFailed = Rose h.faults h.faults_after
-IsUnready h name NoFile = (h.faults_after ≡ h.faults) × (h.missing_after ≡ raised h.missing 1) × IfSome h.files (λ files. file_of files name ≡ None)
-IsUnready h name TooLong = (h.faults_after ≡ h.faults) × (h.too_long_after ≡ raised h.too_long 1) × IfSome h.files (λ files. IsSomeAnd (file_of files name) (λ bytes. 16777216 < length bytes))
 IsUnready h name (Refused e) = (h.faults_after ≡ h.faults) × ((bytes : List ℕ) × HasFile h name bytes × (system_of bytes ≡ Err e))
-IsUnready h name NoMemory = Unit {0}
+IsUnready h name LibraryFailed = IsUnread h name LibraryFailed
+IsUnready h name NoFile = IsUnread h name NoFile
+IsUnready h name TooLong = IsUnread h name TooLong
+IsUnready h name NoMemory = IsUnread h name NoMemory
 
 -- A file writes no system for this reason.
 abbrev pub RefusesFile : List ℕ → Unready → Type 0

@@ -1,7 +1,9 @@
 // What the words ask for.
 
 ghost use Rattle.std.specs.Prelude.{◌≡◌, Some, None, map, string_bytes, MatchOption};
-ghost use Rattle.yarrow.specs.Commands.{command_of, command_seen, check_with, format_with};
+ghost use Rattle.yarrow.specs.Commands.{command_of, command_seen, check_with, format_with, batch_with, is_module};
+
+use pts_names::is_identifier;
 
 /// A command, with what stands behind its word.
 #[derive(Clone, Copy, Debug)]
@@ -10,6 +12,8 @@ pub(crate) enum Command<'a> {
     Check,
     /// `format SPEC`
     Format(&'a str),
+    /// `batch SPEC MODULE`
+    Batch(&'a str, &'a str),
 }
 
 /// The command that the words are, or nothing where they have no form.
@@ -23,6 +27,7 @@ pub(crate) fn command_of(words: &[String]) -> Option<Command<'_>>
     match word.as_str() {
         "check" => check_with(rest),
         "format" => format_with(rest),
+        "batch" => batch_with(rest),
         _ => None,
     }
 }
@@ -43,4 +48,22 @@ fn format_with(words: &[String]) -> Option<Command<'_>>
         [word] if !word.is_empty() => Some(Command::Format(word.as_str())),
         _ => None,
     }
+}
+
+fn batch_with(words: &[String]) -> Option<Command<'_>>
+    ensures { MatchOption result (batch_with (map string_bytes words.now) ≡ None) (λ c. batch_with (map string_bytes words.now) ≡ Some (command_seen c)) }
+{
+    match words {
+        [word, name] if !word.is_empty() && is_module(name.as_str()) => {
+            Some(Command::Batch(word.as_str(), name.as_str()))
+        }
+        _ => None,
+    }
+}
+
+// Whether the word names a module.
+fn is_module(word: &str) -> bool
+    ensures { result ≡ is_module word.now }
+{
+    is_identifier(word) && word != "_" && word.len() <= 128
 }

@@ -1,9 +1,11 @@
-// The program: `check` reads a certificate from standard input and checks it, `format` reads terms and prints them.
+// The program: `check` reads a certificate from standard input and checks it, `format` reads terms and prints them, `batch`
+// checks the declarations of a module.
 // It writes what the definition of the answer says, and the context that it hands back is legal.
-// Stands on the checker, the readers of certificates, specifications and terms, and the outside.
+// Stands on the checker, the readers of certificates, specifications and terms, batches, and the outside.
 #![tactic(auto)]
 
 mod answer;
+mod batch;
 mod command;
 mod enter;
 mod format;

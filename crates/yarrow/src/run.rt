@@ -8,6 +8,7 @@ ghost use Rattle.yarrow.specs.Runs.{IsCheckRun};
 ghost use Rattle.yarrow.specs.Commanded.{IsRun, reads_files};
 
 use crate::answer::{Answer, answer_to};
+use crate::batch::run_batch;
 use crate::command::{Command, command_of};
 use crate::format::run_format;
 use pts_ctx::Context;
@@ -18,7 +19,7 @@ use std::alloc::Global;
 /// How many bytes an input has at most.
 pub const LIMIT: usize = 16_777_216;
 
-/// What a run ends with: its status, the context that it built, and the order of the rounds, of which `check` has none.
+/// What a run ends with: its status, the context that it built, and the order of the rounds, of which no command has any.
 #[derive(Drop)]
 pub struct Finish {
     pub status: u8,
@@ -26,8 +27,9 @@ pub struct Finish {
     pub order: List<List<u32>>,
 }
 
-/// Runs the program with the words behind its own name. The forms are `check` and `format SPEC`, where SPEC is any word
-/// that isn't empty; all other words print `usage`, with status 2, and take nothing from the source.
+/// Runs the program with the words behind its own name. The forms are `check`, `format SPEC` and `batch SPEC MODULE`, where
+/// SPEC is any word that isn't empty and MODULE is a plain name of at most 128 bytes; all other words print `usage`, with
+/// status 2, and take nothing from the source.
 pub fn run<S: Source, K: Sink, L: Library>(
     alloc: Global,
     words: &[String],
@@ -43,6 +45,7 @@ pub fn run<S: Source, K: Sink, L: Library>(
     match command_of(words) {
         Some(Command::Check) => run_check(alloc, source, sink),
         Some(Command::Format(name)) => run_format(alloc, name, source, sink, library),
+        Some(Command::Batch(spec, name)) => run_batch(alloc, spec, name, sink, library),
         None => printed(alloc, sink, 2, b"usage\n", Context::new(alloc)),
     }
 }
@@ -87,9 +90,18 @@ pub(crate) fn finished(alloc: Global, status: u8) -> Finish
     ensures context { result.context.entries ≡ [] }
     ensures order { result.order ≡ [] }
 {
+    ended(alloc, status, Context::new(alloc))
+}
+
+/// The end of a run that built a context.
+pub(crate) fn ended(alloc: Global, status: u8, context: Context) -> Finish
+    ensures status { result.status ≡ status }
+    ensures context { result.context.entries ≡ context.entries }
+    ensures order { result.order ≡ [] }
+{
     Finish {
         status,
-        context: Context::new(alloc),
+        context,
         order: List::of(Vec::new(alloc)),
     }
 }

@@ -1,8 +1,9 @@
 // The system that a command works in.
 
-ghost use Rattle.std.specs.Prelude.{◌≡◌, Ok, IfOk, IfErr, string_bytes};
+ghost use Rattle.std.specs.Prelude.{◌≡◌, Some, Ok, IfOk, IfErr, IfSome, string_bytes};
 ghost use Rattle.pts_spec.specs.SpecFile.{system_of};
-ghost use Rattle.yarrow.specs.Systems.{IsReady, IsUnready, RefusesFile, specification_text, unready_line, unready_status};
+ghost use Rattle.pts_io.specs.Files.{file_of};
+ghost use Rattle.yarrow.specs.Systems.{IsReady, IsUnready, IsUnread, RefusesFile, specification_text, unready_line, unready_status};
 
 use crate::words::system_text;
 use pts_ctx::System;
@@ -35,8 +36,24 @@ pub(crate) fn system_named<L: Library>(
     ensures ready { IfOk result (λ system. IsReady (record { files = L.files library.old; faults = L.faults library.old; faults_after = L.faults library.new; missing = L.missing library.old; missing_after = L.missing library.new; too_long = L.too_long library.old; too_long_after = L.too_long library.new }) name.now system) }
     ensures unready { IfErr result (λ why. IsUnready (record { files = L.files library.old; faults = L.faults library.old; faults_after = L.faults library.new; missing = L.missing library.old; missing_after = L.missing library.new; too_long = L.too_long library.old; too_long_after = L.too_long library.new }) name.now why) }
 {
+    match file_named(alloc, name, library) {
+        Ok(bytes) => system_in(alloc, bytes.as_slice()),
+        Err(why) => Err(why),
+    }
+}
+
+/// Reads the file of this name from the library once.
+pub(crate) fn file_named<L: Library>(
+    alloc: Global,
+    name: &str,
+    library: &mut L,
+) -> Result<Vec<u8>, Unready>
+    ensures files { L.files library.new ≡ L.files library.old }
+    ensures read { IfOk result (λ bytes. (L.faults library.new ≡ L.faults library.old) × (L.missing library.new ≡ L.missing library.old) × (L.too_long library.new ≡ L.too_long library.old) × IfSome (L.files library.old) (λ files. file_of files name.now ≡ Some bytes.items)) }
+    ensures unread { IfErr result (λ why. IsUnread (record { files = L.files library.old; faults = L.faults library.old; faults_after = L.faults library.new; missing = L.missing library.old; missing_after = L.missing library.new; too_long = L.too_long library.old; too_long_after = L.too_long library.new }) name.now why) }
+{
     match library.read(alloc, name) {
-        Ok(Found::Bytes(bytes)) => system_in(alloc, bytes.as_slice()),
+        Ok(Found::Bytes(bytes)) => Ok(bytes),
         Ok(Found::NoFile) => Err(Unready::NoFile),
         Ok(Found::TooLong) => Err(Unready::TooLong),
         Err(ReadFail::Failed) => Err(Unready::LibraryFailed),
@@ -44,8 +61,8 @@ pub(crate) fn system_named<L: Library>(
     }
 }
 
-// The system that a file writes.
-fn system_in(alloc: Global, bytes: &[u8]) -> Result<System, Unready>
+/// The system that a file writes.
+pub(crate) fn system_in(alloc: Global, bytes: &[u8]) -> Result<System, Unready>
     ensures ready { IfOk result (λ system. system_of bytes.now ≡ Ok system) }
     ensures refused { IfErr result (RefusesFile bytes.now) }
 {

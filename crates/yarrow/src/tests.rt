@@ -1,3 +1,4 @@
+use crate::batch::BUDGET;
 use crate::enter::{Entrance, ROOM, enter_all};
 use crate::format::run_format;
 use crate::run::{LIMIT, run, run_check};
@@ -11,7 +12,7 @@ const AXIOM: &str =
 
 #[test]
 fn the_limits_are_those_of_the_manual(rt: HostRuntime) {
-    assert!(rt; LIMIT == 16 * 1024 * 1024 && ROOM == 200_000);
+    assert!(rt; LIMIT == 16 * 1024 * 1024 && ROOM == 200_000 && BUDGET == 1_000_000);
 }
 
 fn entered(alloc: Global, certificate: Certificate) -> Result<Entrance, AllocError> {
@@ -141,4 +142,77 @@ fn fails_behind_a_line(alloc: Global) -> Option<bool> {
 #[test]
 fn what_was_read_before_a_failure_is_answered(rt: HostRuntime) {
     assert!(rt; matches!(fails_behind_a_line(rt.alloc()), Some(true)));
+}
+
+/// Two identities, the second by way of the first.
+const IDENTITIES: &str =
+    "yarrow-module 1\nmodule id\ndefine id : @A:*. A -> A := \\A:*. \\x:A. x\ndefine self : @A:*. A -> A := id (@A:*. A -> A) id\nend\n";
+
+fn file_of(alloc: Global, name: &str, text: &str) -> Option<(String, Vec<u8>)> {
+    let name = String::from_str(alloc, name).ok()?;
+    let bytes = Vec::from_slice(alloc, text.as_bytes()).ok()?;
+    Some((name, bytes))
+}
+
+// The library with the file `full`, a system with all rules for its two sorts, and the file of the module `id`.
+fn library_with(alloc: Global, module: &str) -> Option<MemoryLibrary> {
+    let system =
+        "sorts = ['*', '#']\naxioms = [['*', '#']]\nrules = [['*', '*'], ['#', '*'], ['*', '#'], ['#', '#']]\n";
+    let mut files = Vec::new(alloc);
+    files.push(file_of(alloc, "full", system)?).ok()?;
+    files.push(file_of(alloc, "id.yar", module)?).ok()?;
+    Some(MemoryLibrary::new(files, Vec::new(alloc)))
+}
+
+fn batch_words(alloc: Global, name: &str) -> Option<Vec<String>> {
+    let mut words = words_of(alloc, "batch")?;
+    words.push(String::from_str(alloc, "full").ok()?).ok()?;
+    words.push(String::from_str(alloc, name).ok()?).ok()?;
+    Some(words)
+}
+
+fn batch_status(alloc: Global, module: &str, name: &str, sink: &mut MemorySink) -> Option<u8> {
+    let words = batch_words(alloc, name)?;
+    let mut library = library_with(alloc, module)?;
+    let mut source = source_of(alloc, "").ok()?;
+    Some(run(alloc, &words, &mut source, sink, &mut library).status)
+}
+
+fn batches(alloc: Global, module: &str, name: &str, wanted: u8, output: &str) -> Option<bool> {
+    let mut sink = sink_of(alloc).ok()?;
+    let status = batch_status(alloc, module, name, &mut sink)?;
+    Some(status == wanted && sink.bytes() == output.as_bytes())
+}
+
+#[test]
+fn declarations_are_printed_with_their_types(rt: HostRuntime) {
+    let lines = "id.id : @A:*. A -> A\nid.self : @A:*. A -> A\ndone 2\n";
+    assert!(rt; matches!(batches(rt.alloc(), IDENTITIES, "id", 0, lines), Some(true)));
+}
+
+#[test]
+fn a_module_is_refused_with_its_line(rt: HostRuntime) {
+    let module = "yarrow-module 1\nmodule id\ndefine k := #\nend\n";
+    let line = "refused id Declaration 3 term - NoAxiom #\n";
+    assert!(rt; matches!(batches(rt.alloc(), module, "id", 1, line), Some(true)));
+}
+
+#[test]
+fn a_module_without_a_file_is_named_by_its_file(rt: HostRuntime) {
+    let line = "no file nofile.yar\n";
+    assert!(rt; matches!(batches(rt.alloc(), "", "nofile", 6, line), Some(true)));
+}
+
+// The sink fails at its second call.
+fn fails_behind_a_declaration(alloc: Global) -> Option<bool> {
+    let mut calls = Vec::new(alloc);
+    calls.push(2).ok()?;
+    let mut sink = MemorySink::new(alloc, 100, calls).ok()?;
+    let status = batch_status(alloc, IDENTITIES, "id", &mut sink)?;
+    Some(status == 5 && sink.bytes() == b"id.id : @A:*. A -> A\n".as_slice())
+}
+
+#[test]
+fn what_was_written_before_a_failure_is_a_whole_line(rt: HostRuntime) {
+    assert!(rt; matches!(fails_behind_a_declaration(rt.alloc()), Some(true)));
 }
