@@ -15,15 +15,12 @@ ghost use Rattle.pts_batch.specs.Shown.{answer_seen, Evident};
 use crate::lines::entry_lines;
 use crate::loading::{LoadFault, Loading, load};
 use crate::world::{Batch, World};
-use pts_ctx::{Context, System};
+use pts_ctx::{Context, ROOM, System};
 use pts_declare::{DeclareFault, fault_text, read_text};
 use pts_module::{Module, ModuleFault, Why, read_module};
 use pts_names::{List, Name, Text};
 use pts_rules::Meter;
 use std::alloc::{AllocError, Global};
-
-/// How many entries a context has at most.
-pub const ROOM: usize = 200_000;
 
 /// Checks the file of the module with this name on a budget of so many units, over the empty context. Its declarations
 /// enter behind the label of the module, and each is printed with its type; or one line says why the module is refused,

@@ -11,6 +11,6 @@ mod loading;
 mod tests;
 mod world;
 
-pub use answer::{ROOM, batch};
+pub use answer::batch;
 pub use laws::modules_have_one_answer;
 pub use world::{Batch, World};

@@ -99,7 +99,7 @@ fn begin(alloc: Global, label: &Name, count: usize) -> Result<Loading, AllocErro
 {
     let mut context = Context::new(alloc);
     context.reserve(count, 1)?;
-    context.mark(label.copy(alloc)?);
+    context.mark(label.copy()?);
     Ok(Loading {
         context,
         declarations: Vec::new(alloc),
@@ -144,7 +144,7 @@ impl Loading {
         ensures labels { self.new.context.labels ≡ self.old.context.labels }
         ensures spare { self.old.context.spare_entries ≤ self.new.context.spare_entries + 1 }
     {
-        let key = declaration.name.copy(alloc)?;
+        let key = declaration.name.copy()?;
         let entry = entry_of(alloc, &declaration)?;
         self.declarations.push(declaration)?;
         self.context.push(entry, key);
@@ -188,7 +188,7 @@ fn entry_of(alloc: Global, declaration: &Declaration) -> Result<Entry, AllocErro
         None => None,
     };
     Ok(Entry {
-        name: declaration.name.copy(alloc)?,
+        name: declaration.name.copy()?,
         body,
         ty: declaration.ty.copy(alloc)?,
     })

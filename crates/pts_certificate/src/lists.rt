@@ -56,7 +56,7 @@ fn spellings(alloc: Global, mut words: Words) -> Result<Sorts, Refusal>
 {
     let mut sorts = Sorts::none(alloc);
     while let Some(word) = words.next() {
-        sorts = sorts.with(alloc, spelling_of(alloc, word)?)?;
+        sorts = sorts.with(spelling_of(alloc, word)?)?;
     }
     Ok(sorts)
 }

@@ -47,10 +47,10 @@ impl Sorts {
     }
 
     /// These spellings, and one more.
-    pub(crate) fn with(self, alloc: Global, spelling: SortName) -> Result<Sorts, AllocError>
+    pub(crate) fn with(self, spelling: SortName) -> Result<Sorts, AllocError>
         ensures { IfOk result (λ sorts. sorts ≡ self ++ spelling ∷ []) }
     {
-        let copy = spelling.copy(alloc)?;
+        let copy = spelling.copy()?;
         let Sorts {
             mut list,
             mut known,

@@ -13,6 +13,9 @@ use pts_terms::Name;
 use std::alloc::{AllocError, Global};
 use std::marker::Model;
 
+/// How many entries the context of a program has at most. A context itself takes more.
+pub const ROOM: usize = 200_000;
+
 /// A global context: entries whose names differ, the oldest first, and labels, each with the number of entries that
 /// stood there when it was marked. Every term of it is within limits.
 #[derive(Drop)]
@@ -222,7 +225,7 @@ fn copy_entries(alloc: Global, entries: &[Entry]) -> Result<Context, AllocError>
     let mut copy = Context::new(alloc);
     copy.reserve(entries.len(), 0)?;
     for entry in entries {
-        let key = entry.name.copy(alloc)?;
+        let key = entry.name.copy()?;
         copy.push(entry.copy(alloc)?, key);
     }
     Ok(copy)
@@ -239,7 +242,7 @@ fn copy_labels(
         let Some((label, entries)) = labels.get_index(index) else {
             unreachable!()
         };
-        let key = label.copy(alloc)?;
+        let key = label.copy()?;
         copy.insert(key, *entries)?;
     }
     Ok(copy)

@@ -28,7 +28,7 @@ impl Entry {
             None => None,
         };
         Ok(Entry {
-            name: self.name.copy(alloc)?,
+            name: self.name.copy()?,
             body,
             ty: self.ty.copy(alloc)?,
         })

@@ -9,7 +9,7 @@ mod firsts;
 mod places;
 mod system;
 
-pub use context::Context;
+pub use context::{Context, ROOM};
 pub use entry::Entry;
 pub use pts_names::{NameFault, SortName, SortNameFault};
 pub use pts_terms::{Boxed, Name, Sort, Term};

@@ -218,7 +218,7 @@ fn copy_spellings(alloc: Global, sorts: &[SortName]) -> Result<Vec<SortName>, Al
 {
     let mut copy = Vec::with_capacity(alloc, sorts.len())?;
     for sort in sorts {
-        copy.push(sort.copy(alloc)?)?;
+        copy.push(sort.copy()?)?;
     }
     Ok(copy)
 }

@@ -117,7 +117,7 @@ fn take_parts(proof: &mut Record, term: &Term) -> Result<usize, TermFault>
     match term {
         Term::Sort(s) => add_line(proof, Shape::Sort(*s)),
         Term::Const(c) => {
-            let c = c.copy(proof.alloc())?;
+            let c = c.copy()?;
             add_line(proof, Shape::Const(c))
         }
         Term::Var(i) => add_line(proof, Shape::Var(*i)),
@@ -127,19 +127,19 @@ fn take_parts(proof: &mut Record, term: &Term) -> Result<usize, TermFault>
             add_line(proof, Shape::App(f, a))
         }
         Term::Lam(x, t, b) => {
-            let x = x.copy(proof.alloc())?;
+            let x = x.copy()?;
             let t = take_parts(proof, t.get())?;
             let b = take_parts(proof, b.get())?;
             add_line(proof, Shape::Lam(x, t, b))
         }
         Term::Pi(x, t, b) => {
-            let x = x.copy(proof.alloc())?;
+            let x = x.copy()?;
             let t = take_parts(proof, t.get())?;
             let b = take_parts(proof, b.get())?;
             add_line(proof, Shape::Pi(x, t, b))
         }
         Term::Let(x, d, t, b) => {
-            let x = x.copy(proof.alloc())?;
+            let x = x.copy()?;
             let d = take_parts(proof, d.get())?;
             let t = take_parts(proof, t.get())?;
             let b = take_parts(proof, b.get())?;
@@ -201,21 +201,21 @@ pub fn lift(proof: &mut Record, term: usize, from: u64, by: u64) -> Result<usize
             add_line(proof, Shape::App(f, a))
         }
         Shape::Lam(x, t, b) => {
-            let x = x.copy(proof.alloc())?;
+            let x = x.copy()?;
             let (t, b) = (*t, *b);
             let t = lift(proof, t, from, by)?;
             let b = lift(proof, b, from + 1, by)?;
             add_line(proof, Shape::Lam(x, t, b))
         }
         Shape::Pi(x, t, b) => {
-            let x = x.copy(proof.alloc())?;
+            let x = x.copy()?;
             let (t, b) = (*t, *b);
             let t = lift(proof, t, from, by)?;
             let b = lift(proof, b, from + 1, by)?;
             add_line(proof, Shape::Pi(x, t, b))
         }
         Shape::Let(x, d, t, b) => {
-            let x = x.copy(proof.alloc())?;
+            let x = x.copy()?;
             let (d, t, b) = (*d, *t, *b);
             let d = lift(proof, d, from, by)?;
             let t = lift(proof, t, from, by)?;
@@ -267,21 +267,21 @@ pub fn put(
             add_line(proof, Shape::App(f, a))
         }
         Shape::Lam(x, t, b) => {
-            let x = x.copy(proof.alloc())?;
+            let x = x.copy()?;
             let (t, b) = (*t, *b);
             let t = put(proof, t, index, passed, argument)?;
             let b = put(proof, b, index + 1, passed + 1, argument)?;
             add_line(proof, Shape::Lam(x, t, b))
         }
         Shape::Pi(x, t, b) => {
-            let x = x.copy(proof.alloc())?;
+            let x = x.copy()?;
             let (t, b) = (*t, *b);
             let t = put(proof, t, index, passed, argument)?;
             let b = put(proof, b, index + 1, passed + 1, argument)?;
             add_line(proof, Shape::Pi(x, t, b))
         }
         Shape::Let(x, d, t, b) => {
-            let x = x.copy(proof.alloc())?;
+            let x = x.copy()?;
             let (d, t, b) = (*d, *t, *b);
             let d = put(proof, d, index, passed, argument)?;
             let t = put(proof, t, index, passed, argument)?;

@@ -208,7 +208,7 @@ fn abstract_ruled(
 {
     match system.rule(domain.sort, sorted.sort) {
         Some(product) => {
-            let x = x.copy(proof.alloc())?;
+            let x = x.copy()?;
             let claim = add_line(proof, Shape::Pi(x, domain.judged.subject, body.claim))?;
             Ok(abstract_made(
                 system, proof, ctx, term, claim, domain, inner, body, sorted, product,

@@ -281,7 +281,7 @@ fn define_made(
     ensures keeps { Keeps proof.old proof.new }
     ensures valid { StaysValid proof.old proof.new }
 {
-    let x = x.copy(proof.alloc())?;
+    let x = x.copy()?;
     let line = Shape::Let(x, definition.subject, definition.claim, body.claim);
     let claim = add_line(proof, line)?;
     Ok(define_judged(proof, ctx, term, claim, definition, inner, body, sorted)?)

@@ -87,7 +87,7 @@ fn infer_form(
             infer_sort(system, proof, ctx, term, sort)
         }
         Shape::Const(name) => {
-            let name = name.copy(proof.alloc())?;
+            let name = name.copy()?;
             infer_constant(front, proof, ctx, term, &name, meter)
         }
         Shape::Var(index) => {
@@ -99,21 +99,21 @@ fn infer_form(
             infer_application(system, front, proof, ctx, term, f, a, allowed, meter)
         }
         Shape::Pi(x, domain, body) => {
-            let x = x.copy(proof.alloc())?;
+            let x = x.copy()?;
             let (domain, body) = (*domain, *body);
             infer_product(
                 system, front, proof, ctx, term, &x, domain, body, allowed, meter,
             )
         }
         Shape::Lam(x, domain, body) => {
-            let x = x.copy(proof.alloc())?;
+            let x = x.copy()?;
             let (domain, body) = (*domain, *body);
             infer_abstraction(
                 system, front, proof, ctx, term, &x, domain, body, allowed, meter,
             )
         }
         Shape::Let(x, value, ty, body) => {
-            let x = x.copy(proof.alloc())?;
+            let x = x.copy()?;
             let (value, ty, body) = (*value, *ty, *body);
             infer_definition(
                 system, front, proof, ctx, term, &x, value, ty, body, allowed, meter,

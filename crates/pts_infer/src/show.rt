@@ -45,7 +45,7 @@ fn copies(alloc: Global, names: &[Name]) -> Result<Vec<Name>, AllocError>
 {
     let mut copies = Vec::new(alloc);
     for name in names {
-        copies.push(name.copy(alloc)?)?;
+        copies.push(name.copy()?)?;
     }
     Ok(copies)
 }

@@ -61,7 +61,7 @@ fn outwards_under(alloc: Global, found: Boxed<Found>, part: u8, x: &Name) -> Fau
 {
     let Found { place, names, what } = found.into_inner();
     let (mut place, mut names) = (place, names);
-    let Ok(x) = x.copy(alloc) else {
+    let Ok(x) = x.copy() else {
         return Fault::Memory;
     };
     if place.push(part).is_err() || names.push(x).is_err() {

@@ -11,7 +11,6 @@ use std::alloc::Global;
 
 /// A plain name, and the tokens behind it.
 pub(crate) fn plain(
-    alloc: Global,
     tokens: &[(usize, Token)],
     length: usize,
 ) -> Result<(Name, &[(usize, Token)]), ReadFault>
@@ -21,14 +20,13 @@ pub(crate) fn plain(
         return Err(ReadFault::Expected(length, Kind::Plain));
     };
     match &spot.1 {
-        Token::Name(name) if is_plain(name) => Ok((name.copy(alloc)?, behind)),
+        Token::Name(name) if is_plain(name) => Ok((name.copy()?, behind)),
         _ => Err(ReadFault::Expected(spot.0, Kind::Plain)),
     }
 }
 
 /// A plain name of at most 64 bytes, and the tokens behind it.
 pub(crate) fn label(
-    alloc: Global,
     tokens: &[(usize, Token)],
     length: usize,
 ) -> Result<(Name, &[(usize, Token)]), ReadFault>
@@ -38,14 +36,13 @@ pub(crate) fn label(
         return Err(ReadFault::Expected(length, Kind::Plain));
     };
     match &spot.1 {
-        Token::Name(name) if is_label(name) => Ok((name.copy(alloc)?, behind)),
+        Token::Name(name) if is_label(name) => Ok((name.copy()?, behind)),
         _ => Err(ReadFault::Expected(spot.0, Kind::Plain)),
     }
 }
 
 /// Any name with its place, and the tokens behind it.
 pub(crate) fn name(
-    alloc: Global,
     tokens: &[(usize, Token)],
     length: usize,
 ) -> Result<((usize, Name), &[(usize, Token)]), ReadFault>
@@ -55,7 +52,7 @@ pub(crate) fn name(
         return Err(ReadFault::Expected(length, Kind::Name));
     };
     match &spot.1 {
-        Token::Name(name) => Ok(((spot.0, name.copy(alloc)?), behind)),
+        Token::Name(name) => Ok(((spot.0, name.copy()?), behind)),
         _ => Err(ReadFault::Expected(spot.0, Kind::Name)),
     }
 }

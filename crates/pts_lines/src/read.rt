@@ -70,12 +70,12 @@ fn line_behind(
             end(tokens, length)?;
             Ok(alone_line(alone))
         }
-        Command::OfPlain(named) => Ok(named_line(named, only_plain(alloc, tokens, length)?)),
-        Command::OfName(placed) => Ok(placed_line(placed, only_name(alloc, tokens, length)?)),
+        Command::OfPlain(named) => Ok(named_line(named, only_plain(tokens, length)?)),
+        Command::OfName(placed) => Ok(placed_line(placed, only_name(tokens, length)?)),
         Command::OfTerm(asked) => Ok(asked_line(asked, only_term(alloc, tokens, length)?)),
         Command::OfType(of) => Ok(typed_line(of, typed(alloc, tokens, length)?)),
         Command::Rename => {
-            let (old, new) = two_plain(alloc, tokens, length)?;
+            let (old, new) = two_plain(tokens, length)?;
             Ok(Line::Rename(old, new))
         }
         Command::Budget => Ok(Line::Budget(only_number(tokens, length)?)),

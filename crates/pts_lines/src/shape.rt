@@ -12,40 +12,31 @@ use pts_tokens::Token;
 use std::alloc::Global;
 
 /// The plain name that stands there alone.
-pub(crate) fn only_plain(
-    alloc: Global,
-    tokens: &[(usize, Token)],
-    length: usize,
-) -> Result<Name, ReadFault>
+pub(crate) fn only_plain(tokens: &[(usize, Token)], length: usize) -> Result<Name, ReadFault>
     ensures { AnswersAs (λ x. x) result (run_form within more length plain_form tokens.now) }
 {
-    let (name, behind) = plain(alloc, tokens, length)?;
+    let (name, behind) = plain(tokens, length)?;
     end(behind, length)?;
     Ok(name)
 }
 
 /// The two plain names that stand there alone.
-pub(crate) fn two_plain(
-    alloc: Global,
-    tokens: &[(usize, Token)],
-    length: usize,
-) -> Result<(Name, Name), ReadFault>
+pub(crate) fn two_plain(tokens: &[(usize, Token)], length: usize) -> Result<(Name, Name), ReadFault>
     ensures { AnswersAs (λ x. x) result (run_form within more length names_form tokens.now) }
 {
-    let (first, behind) = plain(alloc, tokens, length)?;
-    let second = only_plain(alloc, behind, length)?;
+    let (first, behind) = plain(tokens, length)?;
+    let second = only_plain(behind, length)?;
     Ok((first, second))
 }
 
 /// The name that stands there alone, with its place.
 pub(crate) fn only_name(
-    alloc: Global,
     tokens: &[(usize, Token)],
     length: usize,
 ) -> Result<(usize, Name), ReadFault>
     ensures { AnswersAs (λ x. x) result (run_form within more length placed_form tokens.now) }
 {
-    let (placed, behind) = name(alloc, tokens, length)?;
+    let (placed, behind) = name(tokens, length)?;
     end(behind, length)?;
     Ok(placed)
 }
@@ -68,7 +59,7 @@ pub(crate) fn typed(
 ) -> Result<(Name, Tree), ReadFault>
     ensures { AnswersAs (λ r. (r.0, syntax_of r.1)) result (run_form within more length typed_form tokens.now) }
 {
-    let (name, behind) = plain(alloc, tokens, length)?;
+    let (name, behind) = plain(tokens, length)?;
     let behind = colon(behind, length)?;
     let ty = only_term(alloc, behind, length)?;
     Ok((name, ty))
@@ -83,7 +74,7 @@ pub(crate) fn definition(
 ) -> Result<(Name, Option<Tree>, Tree), ReadFault>
     ensures { AnswersAs (λ r. (r.0, option_map syntax_of r.1, syntax_of r.2)) result (run_form within more length definition_form tokens.now) }
 {
-    let (name, behind) = plain(alloc, tokens, length)?;
+    let (name, behind) = plain(tokens, length)?;
     let (is_typed, behind) = sign(behind, length)?;
     if is_typed {
         return typed_body(alloc, name, behind, length);
@@ -120,8 +111,8 @@ pub(crate) fn instance(
 ) -> Result<(Name, Name, Vec<Tree>), ReadFault>
     ensures { AnswersAs (λ r. (r.0, r.1, map syntax_of r.2.items)) result (run_form within more length instance_form tokens.now) }
 {
-    let (module, behind) = plain(alloc, tokens, length)?;
-    let (label, behind) = label(alloc, behind, length)?;
+    let (module, behind) = plain(tokens, length)?;
+    let (label, behind) = label(behind, length)?;
     let arguments = any_terms(alloc, behind, length)?;
     Ok((module, label, arguments))
 }

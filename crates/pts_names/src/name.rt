@@ -14,6 +14,7 @@ use std::fmt;
 use std::fmt::{Display, Formatter};
 use std::hash::{Hash, Hasher};
 use std::marker::Model;
+use std::sync::ArcStr;
 
 /// One or more identifiers joined by single dots, in at most 128 bytes. Contracts see its bytes.
 ///
@@ -22,11 +23,12 @@ use std::marker::Model;
 /// identifiers. `_`, the keywords, the dots and the bound are this project's.
 #[derive(Debug, Drop)]
 pub struct Name {
-    text: String,
+    text: ArcStr,
 }
 
 impl Model for Name {
-    ghost use Rattle.std.specs.Prelude.{List, ℕ, string_bytes, ◌≡◌, None};
+    ghost use Rattle.std.specs.Prelude.{List, ℕ, ◌≡◌, None};
+    ghost use Rattle.std.specs.Arc.{arc_str_bytes};
     ghost use Rattle.std.specs.Coded.{coded_list, coded_ℕ};
     ghost use Rattle.pts_names.specs.Name.{name_fault};
 
@@ -34,9 +36,9 @@ impl Model for Name {
 
     ghost coded = { coded_list coded_ℕ };
 
-    ghost view = { λ n. string_bytes n.text };
+    ghost view = { λ n. arc_str_bytes n.text };
 
-    ghost invariant = { λ n. name_fault (string_bytes n.text) ≡ None };
+    ghost invariant = { λ n. name_fault (arc_str_bytes n.text) ≡ None };
 }
 
 impl Name {
@@ -56,7 +58,7 @@ impl Name {
             return Err(fault);
         }
         Ok(Name {
-            text: String::from_str(alloc, text)?,
+            text: ArcStr::from_str(alloc, text)?,
         })
     }
 
@@ -75,8 +77,9 @@ impl Name {
         if length > 128 {
             return Err(NameFault::TooLong(length));
         }
+        let text = format!(in alloc; "{label}.{last}")?;
         Ok(Name {
-            text: format!(in alloc; "{label}.{last}")?,
+            text: ArcStr::from_string(text)?,
         })
     }
 
@@ -98,12 +101,12 @@ impl Name {
         self.text.as_str()
     }
 
-    /// The same name again, in memory of its own.
-    pub fn copy(&self, alloc: Global) -> Result<Name, AllocError>
+    /// The same name again. The two share their text.
+    pub fn copy(&self) -> Result<Name, AllocError>
         ensures { IfOk result (λ n. n ≡ self.now) }
     {
         Ok(Name {
-            text: String::from_str(alloc, self.text.as_str())?,
+            text: self.text.clone()?,
         })
     }
 

@@ -14,16 +14,18 @@ use std::fmt;
 use std::fmt::{Display, Formatter};
 use std::hash::{Hash, Hasher};
 use std::marker::Model;
+use std::sync::ArcStr;
 
 /// The spelling of a sort: `*`, `#`, or `'` and one identifier, of any length (this project's rule).
 /// Contracts see its bytes.
 #[derive(Debug, Drop)]
 pub struct SortName {
-    text: String,
+    text: ArcStr,
 }
 
 impl Model for SortName {
-    ghost use Rattle.std.specs.Prelude.{List, ℕ, string_bytes, ◌≡◌, true};
+    ghost use Rattle.std.specs.Prelude.{List, ℕ, ◌≡◌, true};
+    ghost use Rattle.std.specs.Arc.{arc_str_bytes};
     ghost use Rattle.std.specs.Coded.{coded_list, coded_ℕ};
     ghost use Rattle.pts_names.specs.Name.{is_sort_spelling};
 
@@ -31,9 +33,9 @@ impl Model for SortName {
 
     ghost coded = { coded_list coded_ℕ };
 
-    ghost view = { λ s. string_bytes s.text };
+    ghost view = { λ s. arc_str_bytes s.text };
 
-    ghost invariant = { λ s. is_sort_spelling (string_bytes s.text) ≡ true };
+    ghost invariant = { λ s. is_sort_spelling (arc_str_bytes s.text) ≡ true };
 }
 
 impl SortName {
@@ -51,7 +53,7 @@ impl SortName {
             return Err(SortNameFault::BadSpelling);
         }
         Ok(SortName {
-            text: String::from_str(alloc, text)?,
+            text: ArcStr::from_str(alloc, text)?,
         })
     }
 
@@ -63,12 +65,12 @@ impl SortName {
         self.text.as_str()
     }
 
-    /// The same spelling again, in memory of its own.
-    pub fn copy(&self, alloc: Global) -> Result<SortName, AllocError>
+    /// The same spelling again. The two share their text.
+    pub fn copy(&self) -> Result<SortName, AllocError>
         ensures { IfOk result (λ s. s ≡ self.now) }
     {
         Ok(SortName {
-            text: String::from_str(alloc, self.text.as_str())?,
+            text: self.text.clone()?,
         })
     }
 

@@ -30,7 +30,7 @@ impl Binders {
     {
         let mut names = Vec::with_capacity(alloc, locals.len())?;
         for local in locals {
-            names.push(local.copy(alloc)?)?;
+            names.push(local.copy()?)?;
         }
         Ok(Binders { names })
     }

@@ -17,7 +17,7 @@ pub(crate) fn applied(alloc: Global, function: Term, argument: Term) -> Result<T
 pub(crate) fn lam(alloc: Global, name: &Name, domain: Term, body: Term) -> Result<Term, AllocError>
     ensures { IfOk result (λ t. named t ≡ named_lam name.now (named domain) (named body)) }
 {
-    let name = name.copy(alloc)?;
+    let name = name.copy()?;
     Ok(Term::Lam(name, Boxed::new(alloc, domain)?, Boxed::new(alloc, body)?))
 }
 
@@ -25,7 +25,7 @@ pub(crate) fn lam(alloc: Global, name: &Name, domain: Term, body: Term) -> Resul
 pub(crate) fn pi(alloc: Global, name: &Name, domain: Term, body: Term) -> Result<Term, AllocError>
     ensures { IfOk result (λ t. named t ≡ named_pi name.now (named domain) (named body)) }
 {
-    let name = name.copy(alloc)?;
+    let name = name.copy()?;
     Ok(Term::Pi(name, Boxed::new(alloc, domain)?, Boxed::new(alloc, body)?))
 }
 
@@ -39,7 +39,7 @@ pub(crate) fn local(
 ) -> Result<Term, AllocError>
     ensures { IfOk result (λ t. named t ≡ named_let name.now (named definition) (named ty) (named body)) }
 {
-    let name = name.copy(alloc)?;
+    let name = name.copy()?;
     Ok(Term::Let(
         name,
         Boxed::new(alloc, definition)?,

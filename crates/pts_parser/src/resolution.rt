@@ -48,7 +48,7 @@ fn term_at<S: Scope>(
     ensures binders { OnOk result (binders.new ≡ binders.old) }
 {
     match tree {
-        Tree::Sort(place, spelling) => sort_at(alloc, *place, spelling, system),
+        Tree::Sort(place, spelling) => sort_at(*place, spelling, system),
         Tree::Named(place, name) => name_at(alloc, *place, name, binders, scope),
         Tree::App(f, a) => {
             let function = term_at(alloc, f.get(), system, binders, scope)?;
@@ -87,24 +87,19 @@ fn body_at<S: Scope>(
     ensures term { Answers result (resolved system.now.sorts (S.constants scope.now) (name.now ∷ binders.old) (syntax_of body.now)) }
     ensures binders { OnOk result (binders.new ≡ binders.old) }
 {
-    binders.push(name.copy(alloc)?)?;
+    binders.push(name.copy()?)?;
     let term = term_at(alloc, body.get(), system, binders, scope)?;
     binders.pop();
     Ok(term)
 }
 
 /// The sort of a spelling.
-fn sort_at(
-    alloc: Global,
-    place: usize,
-    spelling: &SortName,
-    system: &System,
-) -> Result<Term, ReadFault>
+fn sort_at(place: usize, spelling: &SortName, system: &System) -> Result<Term, ReadFault>
     ensures { Answers result (sort_at (sort_of system.now.sorts spelling.now) place spelling.now) }
 {
     match system.sort(spelling) {
         Some(sort) => Ok(Term::Sort(sort)),
-        None => Err(ReadFault::UnknownSort(place, spelling.copy(alloc)?)),
+        None => Err(ReadFault::UnknownSort(place, spelling.copy()?)),
     }
 }
 
@@ -126,6 +121,6 @@ fn name_at<S: Scope>(
     }
     match scope.constant(alloc, name)? {
         Some(constant) => Ok(Term::Const(constant)),
-        None => Err(ReadFault::UnknownName(place, name.copy(alloc)?)),
+        None => Err(ReadFault::UnknownName(place, name.copy()?)),
     }
 }

@@ -21,7 +21,7 @@ impl Scope for Only {
 
     fn constant(&self, alloc: Global, name: &Name) -> Result<Option<Name>, AllocError> {
         if self.name.same(name) {
-            return Ok(Some(name.copy(alloc)?));
+            return Ok(Some(name.copy()?));
         }
         Ok(None)
     }

@@ -16,12 +16,12 @@ fn applied(alloc: Global, function: Term, argument: Term) -> Result<Term, AllocE
 }
 
 fn lam(alloc: Global, name: &Name, domain: Term, body: Term) -> Result<Term, AllocError> {
-    let name = name.copy(alloc)?;
+    let name = name.copy()?;
     Ok(Term::Lam(name, Boxed::new(alloc, domain)?, Boxed::new(alloc, body)?))
 }
 
 fn pi(alloc: Global, name: &Name, domain: Term, body: Term) -> Result<Term, AllocError> {
-    let name = name.copy(alloc)?;
+    let name = name.copy()?;
     Ok(Term::Pi(name, Boxed::new(alloc, domain)?, Boxed::new(alloc, body)?))
 }
 

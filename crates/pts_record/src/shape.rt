@@ -20,17 +20,17 @@ pub enum Shape {
 
 impl Shape {
     /// The same line.
-    pub fn copy(&self, alloc: Global) -> Result<Shape, AllocError>
+    pub fn copy(&self) -> Result<Shape, AllocError>
         ensures { IfOk result (λ s. s ≡ self.now) }
     {
         Ok(match self {
             Shape::Sort(s) => Shape::Sort(*s),
-            Shape::Const(c) => Shape::Const(c.copy(alloc)?),
+            Shape::Const(c) => Shape::Const(c.copy()?),
             Shape::Var(i) => Shape::Var(*i),
             Shape::App(f, a) => Shape::App(*f, *a),
-            Shape::Lam(x, t, b) => Shape::Lam(x.copy(alloc)?, *t, *b),
-            Shape::Pi(x, t, b) => Shape::Pi(x.copy(alloc)?, *t, *b),
-            Shape::Let(x, d, t, b) => Shape::Let(x.copy(alloc)?, *d, *t, *b),
+            Shape::Lam(x, t, b) => Shape::Lam(x.copy()?, *t, *b),
+            Shape::Pi(x, t, b) => Shape::Pi(x.copy()?, *t, *b),
+            Shape::Let(x, d, t, b) => Shape::Let(x.copy()?, *d, *t, *b),
         })
     }
 
@@ -62,7 +62,7 @@ pub(crate) fn copy_shapes(alloc: Global, shapes: &[Shape]) -> Result<Vec<Shape>,
 {
     let mut copy = Vec::new(alloc);
     for shape in shapes {
-        copy.push(shape.copy(alloc)?)?;
+        copy.push(shape.copy()?)?;
     }
     Ok(copy)
 }

@@ -21,22 +21,13 @@ impl Record {
     {
         Ok(match self.shape(term) {
             Shape::Sort(s) => Term::Sort(*s),
-            Shape::Const(c) => Term::Const(c.copy(self.alloc())?),
+            Shape::Const(c) => Term::Const(c.copy()?),
             Shape::Var(i) => Term::Var(*i),
             Shape::App(f, a) => Term::App(self.part(*f)?, self.part(*a)?),
-            Shape::Lam(x, t, b) => {
-                Term::Lam(x.copy(self.alloc())?, self.part(*t)?, self.part(*b)?)
-            }
-            Shape::Pi(x, t, b) => {
-                Term::Pi(x.copy(self.alloc())?, self.part(*t)?, self.part(*b)?)
-            }
+            Shape::Lam(x, t, b) => { Term::Lam(x.copy()?, self.part(*t)?, self.part(*b)?) }
+            Shape::Pi(x, t, b) => { Term::Pi(x.copy()?, self.part(*t)?, self.part(*b)?) }
             Shape::Let(x, d, t, b) => {
-                Term::Let(
-                    x.copy(self.alloc())?,
-                    self.part(*d)?,
-                    self.part(*t)?,
-                    self.part(*b)?,
-                )
+                Term::Let(x.copy()?, self.part(*d)?, self.part(*t)?, self.part(*b)?)
             }
         })
     }
@@ -88,7 +79,7 @@ impl Record {
         match term {
             Term::Sort(s) => self.put_line(Shape::Sort(*s)),
             Term::Const(c) => {
-                let c = c.copy(self.alloc())?;
+                let c = c.copy()?;
                 self.put_line(Shape::Const(c))
             }
             Term::Var(i) => self.put_line(Shape::Var(*i)),
@@ -98,19 +89,19 @@ impl Record {
                 self.put_line(Shape::App(f, a))
             }
             Term::Lam(x, t, b) => {
-                let x = x.copy(self.alloc())?;
+                let x = x.copy()?;
                 let t = self.put_tree(t.get())?;
                 let b = self.put_tree(b.get())?;
                 self.put_line(Shape::Lam(x, t, b))
             }
             Term::Pi(x, t, b) => {
-                let x = x.copy(self.alloc())?;
+                let x = x.copy()?;
                 let t = self.put_tree(t.get())?;
                 let b = self.put_tree(b.get())?;
                 self.put_line(Shape::Pi(x, t, b))
             }
             Term::Let(x, d, t, b) => {
-                let x = x.copy(self.alloc())?;
+                let x = x.copy()?;
                 let d = self.put_tree(d.get())?;
                 let t = self.put_tree(t.get())?;
                 let b = self.put_tree(b.get())?;

@@ -130,7 +130,7 @@ pub(crate) fn step(
     match proof.shape(term) {
         Shape::Sort(_) | Shape::Lam(..) | Shape::Pi(..) => Ok(None),
         Shape::Const(name) => {
-            let name = name.copy(proof.alloc())?;
+            let name = name.copy()?;
             unfold(front, proof, &name, meter)
         }
         Shape::Var(index) => {

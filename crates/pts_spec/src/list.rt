@@ -64,7 +64,7 @@ impl Item for (SortName, SortName, SortName) {
         ) {
             (Some(first), Some(second), Some(third), None) => Ok((first, second, third)),
             (Some(first), Some(second), None, None) => {
-                let third = second.copy(alloc)?;
+                let third = second.copy()?;
                 Ok((first, second, third))
             }
             _ => Err(Misfit::Shape),

@@ -89,10 +89,10 @@ fn step(
     ensures { IfOk result (λ m. move_of (map frame stack.new) m ≡ machine.step parts more (state_of (map frame stack.old) state) (place, next.now)) }
 {
     match state {
-        State::Begin => first(alloc, stack, place, next),
+        State::Begin => first(stack, place, next),
         State::Binder(binder) => match next {
             Token::Name(name) if name.parts() == 1 => {
-                Ok(Move::Go(State::BinderSign(binder, name.copy(alloc)?)))
+                Ok(Move::Go(State::BinderSign(binder, name.copy()?)))
             }
             _ => Ok(Move::Fail(Kind::Name)),
         },
@@ -104,9 +104,7 @@ fn step(
             _ => Ok(Move::Fail(Kind::Colon)),
         },
         State::LetName => match next {
-            Token::Name(name) if name.parts() == 1 => {
-                Ok(Move::Go(State::LetSign(name.copy(alloc)?)))
-            }
+            Token::Name(name) if name.parts() == 1 => { Ok(Move::Go(State::LetSign(name.copy()?))) }
             _ => Ok(Move::Fail(Kind::Name)),
         },
         State::LetSign(name) => match next {
@@ -121,18 +119,15 @@ fn step(
 }
 
 /// The first token of a term.
-fn first(alloc: Global, stack: &mut Stack, place: usize, next: &Token) -> Result<Move, AllocError>
+fn first(stack: &mut Stack, place: usize, next: &Token) -> Result<Move, AllocError>
     ensures { IfOk result (λ m. move_of (map frame stack.new) m ≡ machine.step parts more (begin (map frame stack.old)) (place, next.now)) }
 {
     match next {
         Token::Lambda => Ok(Move::Go(State::Binder(Binder::Lam))),
         Token::At => Ok(Move::Go(State::Binder(Binder::Pi))),
         Token::Let => Ok(Move::Go(State::LetName)),
-        Token::Sort(spelling) => Ok(Move::Go(State::After(Part::sort(
-            place,
-            spelling.copy(alloc)?,
-        )))),
-        Token::Name(name) => Ok(Move::Go(State::After(Part::name(place, name.copy(alloc)?)))),
+        Token::Sort(spelling) => Ok(Move::Go(State::After(Part::sort(place, spelling.copy()?)))),
+        Token::Name(name) => Ok(Move::Go(State::After(Part::name(place, name.copy()?)))),
         Token::Open => open(stack, None),
         _ => Ok(Move::Fail(Kind::Term)),
     }
@@ -150,11 +145,11 @@ fn further(
 {
     match next {
         Token::Sort(spelling) => {
-            let argument = Part::sort(place, spelling.copy(alloc)?);
+            let argument = Part::sort(place, spelling.copy()?);
             Ok(Move::Go(State::After(Part::applied(alloc, function, argument)?)))
         }
         Token::Name(name) => {
-            let argument = Part::name(place, name.copy(alloc)?);
+            let argument = Part::name(place, name.copy()?);
             Ok(Move::Go(State::After(Part::applied(alloc, function, argument)?)))
         }
         Token::Open => open(stack, Some(function)),

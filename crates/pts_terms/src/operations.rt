@@ -50,7 +50,7 @@ impl Term {
         }
         match self {
             Term::Sort(s) => Ok(Term::Sort(*s)),
-            Term::Const(c) => Ok(Term::Const(c.copy(alloc)?)),
+            Term::Const(c) => Ok(Term::Const(c.copy()?)),
             Term::Var(i) => {
                 if u64::from(*i) < from {
                     return Ok(Term::Var(*i));
@@ -62,17 +62,17 @@ impl Term {
                 raised_part(alloc, a, from, by)?,
             )),
             Term::Lam(x, t, b) => Ok(Term::Lam(
-                x.copy(alloc)?,
+                x.copy()?,
                 raised_part(alloc, t, from, by)?,
                 raised_body(alloc, b, from, by)?,
             )),
             Term::Pi(x, t, b) => Ok(Term::Pi(
-                x.copy(alloc)?,
+                x.copy()?,
                 raised_part(alloc, t, from, by)?,
                 raised_body(alloc, b, from, by)?,
             )),
             Term::Let(x, d, t, b) => Ok(Term::Let(
-                x.copy(alloc)?,
+                x.copy()?,
                 raised_part(alloc, d, from, by)?,
                 raised_part(alloc, t, from, by)?,
                 raised_body(alloc, b, from, by)?,
@@ -142,24 +142,24 @@ impl Term {
         }
         match self {
             Term::Sort(s) => Ok(Term::Sort(*s)),
-            Term::Const(c) => Ok(Term::Const(c.copy(alloc)?)),
+            Term::Const(c) => Ok(Term::Const(c.copy()?)),
             Term::Var(i) => substituted_index(alloc, *i, index, passed, argument),
             Term::App(f, a) => Ok(Term::App(
                 substituted_part(alloc, f, index, passed, argument)?,
                 substituted_part(alloc, a, index, passed, argument)?,
             )),
             Term::Lam(x, t, b) => Ok(Term::Lam(
-                x.copy(alloc)?,
+                x.copy()?,
                 substituted_part(alloc, t, index, passed, argument)?,
                 substituted_body(alloc, b, index, passed, argument)?,
             )),
             Term::Pi(x, t, b) => Ok(Term::Pi(
-                x.copy(alloc)?,
+                x.copy()?,
                 substituted_part(alloc, t, index, passed, argument)?,
                 substituted_body(alloc, b, index, passed, argument)?,
             )),
             Term::Let(x, d, t, b) => Ok(Term::Let(
-                x.copy(alloc)?,
+                x.copy()?,
                 substituted_part(alloc, d, index, passed, argument)?,
                 substituted_part(alloc, t, index, passed, argument)?,
                 substituted_body(alloc, b, index, passed, argument)?,
@@ -178,7 +178,7 @@ impl Term {
                 if name.same(c) {
                     return by.copy(alloc);
                 }
-                Ok(Term::Const(c.copy(alloc)?))
+                Ok(Term::Const(c.copy()?))
             }
             Term::Var(i) => Ok(Term::Var(*i)),
             Term::App(f, a) => Ok(Term::App(
@@ -186,17 +186,17 @@ impl Term {
                 part_with_const(alloc, a, name, by)?,
             )),
             Term::Lam(x, t, b) => Ok(Term::Lam(
-                x.copy(alloc)?,
+                x.copy()?,
                 part_with_const(alloc, t, name, by)?,
                 part_with_const(alloc, b, name, by)?,
             )),
             Term::Pi(x, t, b) => Ok(Term::Pi(
-                x.copy(alloc)?,
+                x.copy()?,
                 part_with_const(alloc, t, name, by)?,
                 part_with_const(alloc, b, name, by)?,
             )),
             Term::Let(x, d, t, b) => Ok(Term::Let(
-                x.copy(alloc)?,
+                x.copy()?,
                 part_with_const(alloc, d, name, by)?,
                 part_with_const(alloc, t, name, by)?,
                 part_with_const(alloc, b, name, by)?,

@@ -31,17 +31,15 @@ impl Term {
     {
         Ok(match self {
             Term::Sort(s) => Term::Sort(*s),
-            Term::Const(c) => Term::Const(c.copy(alloc)?),
+            Term::Const(c) => Term::Const(c.copy()?),
             Term::Var(i) => Term::Var(*i),
             Term::App(f, a) => Term::App(copy_part(alloc, f)?, copy_part(alloc, a)?),
             Term::Lam(x, t, b) => {
-                Term::Lam(x.copy(alloc)?, copy_part(alloc, t)?, copy_part(alloc, b)?)
+                Term::Lam(x.copy()?, copy_part(alloc, t)?, copy_part(alloc, b)?)
             }
-            Term::Pi(x, t, b) => {
-                Term::Pi(x.copy(alloc)?, copy_part(alloc, t)?, copy_part(alloc, b)?)
-            }
+            Term::Pi(x, t, b) => { Term::Pi(x.copy()?, copy_part(alloc, t)?, copy_part(alloc, b)?) }
             Term::Let(x, d, t, b) => Term::Let(
-                x.copy(alloc)?,
+                x.copy()?,
                 copy_part(alloc, d)?,
                 copy_part(alloc, t)?,
                 copy_part(alloc, b)?,

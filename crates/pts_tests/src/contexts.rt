@@ -21,7 +21,7 @@ fn push(context: &mut Context, name: Name, key: Name) -> Result<(), AllocError>
 // Adds an assumption of sort 0.
 fn assume(context: &mut Context, alloc: Global, text: &str) -> Result<(), NameFault> {
     let name = Name::read(alloc, text)?;
-    let key = name.copy(alloc)?;
+    let key = name.copy()?;
     Ok(push(context, name, key)?)
 }
 

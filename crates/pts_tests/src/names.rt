@@ -13,7 +13,7 @@ fn joins(alloc: Global) -> Result<bool, NameFault> {
 
 fn shows(alloc: Global) -> Result<bool, NameFault> {
     let name = Name::read(alloc, "имя.α2")?;
-    let copy = name.copy(alloc)?;
+    let copy = name.copy()?;
     let shown = format!(in alloc; "<{copy}>")?;
     Ok(copy.same(&name) && shown.as_str() == "<имя.α2>")
 }
@@ -48,7 +48,7 @@ fn a_text_that_is_no_name_is_refused_at_its_first_fault(rt: HostRuntime) {
 
 fn spells(alloc: Global, text: &str) -> Result<bool, SortNameFault> {
     let spelling = SortName::read(alloc, text)?;
-    let copy = spelling.copy(alloc)?;
+    let copy = spelling.copy()?;
     let shown = format!(in alloc; "{copy}")?;
     Ok(copy.same(&spelling) && copy.text() == text && shown.as_str() == text)
 }

@@ -104,5 +104,5 @@ fn a_term_is_taken_in_and_given_back(rt: HostRuntime) {
     assert!(rt; matches!(record.add_tree(&Term::Var(3)), Ok(0)));
     assert!(rt; is_tree(&record, 0, &tree_at(&record, 0)));
     assert!(rt; has_one_term(&record.copy()));
-    assert!(rt; matches!(Shape::Var(7).copy(record.alloc()), Ok(Shape::Var(7))));
+    assert!(rt; matches!(Shape::Var(7).copy(), Ok(Shape::Var(7))));
 }

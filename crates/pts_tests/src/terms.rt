@@ -73,7 +73,7 @@ fn is_replaced(answer: &Result<Term, Big>, body: &Term, name: &Name, by: &Term) 
 }
 
 fn replaces(alloc: Global, name: &Name) -> Result<bool, AllocError> {
-    let body = Term::Const(name.copy(alloc)?);
+    let body = Term::Const(name.copy()?);
     Ok(is_replaced(
         &replaced(alloc, &body, name),
         &body,

@@ -7,14 +7,11 @@ ghost use Rattle.pts_certificate.specs.Seen.{declared_of};
 ghost use Rattle.yarrow.specs.Enter.{entry_of, declaration_fault, refusal_of, enter_all};
 
 use pts_check::{Verdict, check, concludes};
-use pts_ctx::{Context, Entry, System};
+use pts_ctx::{Context, Entry, ROOM, System};
 use pts_names::Name;
 use pts_record::Declaration;
 use pts_rules::Why;
 use std::alloc::{AllocError, Global};
-
-/// How many entries a context has at most.
-pub const ROOM: usize = 200_000;
 
 /// Why a declaration does not enter a context.
 #[derive(Debug, Drop)]
@@ -48,7 +45,7 @@ pub fn enter_all(
     context.reserve(declarations.len().min(ROOM), 0)?;
     let mut rest = declarations.into_iter();
     while let Some(declaration) = rest.next() {
-        let refusal = enter(alloc, system, &mut context, declaration)?;
+        let refusal = enter(system, &mut context, declaration)?;
         if refusal.is_some() {
             return Ok(Entrance { context, refusal });
         }
@@ -61,7 +58,6 @@ pub fn enter_all(
 
 // Enters a declaration, or says why not.
 fn enter(
-    alloc: Global,
     system: &System,
     context: &mut Context,
     declaration: Declaration,
@@ -72,10 +68,10 @@ fn enter(
     ensures kept { IfOk result (λ r. IsSome r → context.new.entries ≡ context.old.entries) }
     ensures spare { context.old.spare_entries ≤ context.new.spare_entries + 1 }
 {
-    if let Some(refusal) = refusal_of(alloc, system, context, &declaration)? {
+    if let Some(refusal) = refusal_of(system, context, &declaration)? {
         return Ok(Some(refusal));
     }
-    let key = declaration.name.copy(alloc)?;
+    let key = declaration.name.copy()?;
     let Declaration { name, body, ty, .. } = declaration;
     context.push(Entry { name, body, ty }, key);
     Ok(None)
@@ -84,7 +80,6 @@ fn enter(
 // Why a declaration does not enter. The terms of one that does are within limits.
 #[tactic(auto, unfolding(crate::specs::Enter::refusal_of))]
 fn refusal_of(
-    alloc: Global,
     system: &System,
     context: &Context,
     declaration: &Declaration,
@@ -95,13 +90,13 @@ fn refusal_of(
     ensures within { result ≡ Ok None → global_within (entry_of (declared_of declaration.now)) ≡ true }
 {
     if let Some(place) = context.place_of(&declaration.name) {
-        return Ok(Some(Refusal::Clash(declaration.name.copy(alloc)?, place)));
+        return Ok(Some(Refusal::Clash(declaration.name.copy()?, place)));
     }
     if context.len() >= ROOM {
         return Ok(Some(Refusal::Full));
     }
     match declaration_fault(system, context, declaration) {
-        Some(fault) => Ok(Some(Refusal::Faulty(declaration.name.copy(alloc)?, fault.0, fault.1))),
+        Some(fault) => Ok(Some(Refusal::Faulty(declaration.name.copy()?, fault.0, fault.1))),
         None => Ok(None),
     }
 }

@@ -1,8 +1,9 @@
 use crate::batch::BUDGET;
-use crate::enter::{Entrance, ROOM, enter_all};
+use crate::enter::{Entrance, enter_all};
 use crate::format::run_format;
 use crate::run::{LIMIT, run, run_check};
 use pts_certificate::{Certificate, read_certificate};
+use pts_ctx::ROOM;
 use pts_io::{MemoryLibrary, MemorySink, MemorySource};
 use std::alloc::{AllocError, Global};
 

@@ -11,10 +11,10 @@ invariant_of-result c =
     let label = c.label.view_is in
     let last = c.last.view_is in
     let fits : length (joined c.args.label.now c.args.last.now) ≤ 128 = omega (arith, ap length label, ap length last, length-append c.args.label.now (46 ∷ c.args.last.now)) in
-    ap name_fault c.in_ok-format.ensures.ok
+    ap name_fault (c.in_ok-from_string.ensures.ok ∙ c.in_ok-text.ensures.ok)
     ∙ joined_is_name c.args.label.now c.args.last.now
-    (subst IsUtf8 label (IsUtf8-string_bytes c.label.inside.text))
-    (subst IsUtf8 last (IsUtf8-string_bytes c.last.inside.text))
+    (subst IsUtf8 label (IsUtf8-string_bytes c.label.inside.text.text.value))
+    (subst IsUtf8 last (IsUtf8-string_bytes c.last.inside.text.text.value))
     (subst (λ text. name_fault text ≡ None) label c.label.invariant)
     (subst (λ text. name_fault text ≡ None) last c.last.invariant)
     fits
