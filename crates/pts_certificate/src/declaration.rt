@@ -62,14 +62,15 @@ fn last_node(proof: &Record) -> Option<Node>
     if count == 0 {
         return None;
     }
-    Some(*proof.node(count - 1))
+    Some(proof.node(count - 1))
 }
 
-fn declared(heading: Heading, proof: Record, last: Node) -> Result<Declaration, Refusal>
+fn declared(heading: Heading, mut proof: Record, last: Node) -> Result<Declaration, Refusal>
     requires subject { last.subject < length proof.shapes }
     requires claim { last.claim < length proof.shapes }
     ensures { AnswersAs declared_of result (Ok (format.declared (heading_of heading) proof last)) }
 {
+    proof.trim();
     let subject = proof.tree(last.subject)?;
     let (body, ty) = if heading.defines {
         (Some(subject), proof.tree(last.claim)?)

@@ -100,7 +100,7 @@ pub(crate) fn var_fault(proof: &Record, node: &Node) -> Option<Why>
     let Some(index) = var_in(proof, node.subject) else {
         return Some(Why::Subject);
     };
-    if index as usize >= proof.extent(node.ctx).length {
+    if index >= proof.extent(node.ctx).length {
         return Some(Why::NoEntry);
     }
     let Some(ty) = type_at(proof, node.ctx, index) else {

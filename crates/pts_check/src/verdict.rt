@@ -29,7 +29,7 @@ pub fn check(system: &System, front: &Context, proof: &Record) -> Verdict
 {
     for number in 0..proof.nodes() {
         let node = proof.node(number);
-        if let Some(why) = node_fault(system, front, proof, number, node) {
+        if let Some(why) = node_fault(system, front, proof, number, &node) {
             return Verdict::Faulty { node: number, why };
         }
     }

@@ -142,12 +142,12 @@ fn check_fit(
     }
 }
 
-// The record of a declaration. It grows no further, and so holds no hints.
+// The record of a declaration, which grows no further.
 fn finished(proof: Record) -> Record
     ensures { result ≡ proof }
 {
     let mut proof = proof;
-    proof.forget();
+    proof.trim();
     proof
 }
 

@@ -150,11 +150,11 @@ entries_long ss ms ns es kept (suc b) k d h lt =
     (λ g. entries_long ss ms ns es kept b n.first d (omega (arith, g, h)) (omega (arith, g, lt))) in
     subst (λ m. length (scope_of m).entries ≤ k) (sym says) le
 
-pub extent_small : (ss : List Shape) (ms : List Measure) (ns : List Node) (es : List Extent) (r : Tables) → Kept ss ms ns es → tables ss ns ≡ r → (k : ℕ) (x : Extent) → k < length r.nodes → x ≡ get_or es k x → x.length < 4294967296
+pub extent_small : (ss : List Shape) (ms : List Measure) (ns : List Node) (es : List Extent) (r : Tables) → Kept ss ms ns es → tables ss ns ≡ r → (k : ℕ) (x : Extent) → k < length r.nodes → x ≡ get_or es k x → (x.length < 4294967296) × (x.length ≤ k)
 extent_small ss ms ns es r kept v k x h e =
     let is : x ≡ extent (told r k) = extent_is ss ms ns es r kept v k x h e in
     let long : k < length ns = omega (arith, h, ap (λ t. length t.nodes) v) in
     let d : Node = record { form = Empty; ctx = 0; subject = 0; claim = 0; first = 0; second = 0; third = 0 } in
     let le : length (scope_of (told (tables ss ns) k)).entries ≤ k = entries_long ss ms ns es kept (suc k) k d long (omega arith) in
     let same : x.length ≡ length (scope_of (told (tables ss ns) k)).entries = ap (λ y. y.length) is ∙ ap (λ t. length (scope_of (told t k)).entries) (sym v) in
-    omega (arith, le, same, long, kept.nodes_fit)
+    (omega (arith, le, same, long, kept.nodes_fit), omega (arith, le, same))

@@ -8,6 +8,7 @@ mod declaration;
 mod hints;
 mod links;
 mod measure;
+mod packed;
 mod record;
 mod shape;
 mod tree;

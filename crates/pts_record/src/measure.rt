@@ -5,8 +5,8 @@ ghost use Rattle.std.specs.Prelude.{◌≡◌, ◌+◌, ◌-◌, ◌<◌, ◌≤
 /// How large a term is: its depth, its tree size, and the least number above its free indices.
 #[derive(Clone, Copy, Debug, PartialEq, Eq)]
 pub struct Measure {
-    pub depth: u64,
-    pub size: u64,
+    pub depth: u32,
+    pub size: u32,
     pub free: u64,
 }
 

@@ -8,6 +8,7 @@ ghost use Rattle.pts_record.specs.Said.{told, named_told, say_as, line_of, scope
 
 use crate::hints::{Hints, node_key, term_key};
 use crate::links::{context_fault, kept, part_fault, premise_fault, terms_fault};
+use crate::packed::Packed;
 use crate::shape::copy_shapes;
 use crate::{Extent, Form, Measure, Node, RecordFault, Shape};
 use pts_ctx::Term;
@@ -24,7 +25,7 @@ pub struct Record {
     alloc: Global,
     shapes: Vec<Shape>,
     measures: Vec<Measure>,
-    nodes: Vec<Node>,
+    nodes: Vec<Packed>,
     extents: Vec<Extent>,
     hints: Hints,
 }
@@ -120,15 +121,15 @@ impl Record {
     }
 
     /// The line of a node.
-    pub fn node(&self, number: usize) -> &Node
+    pub fn node(&self, number: usize) -> Node
         requires { number < length self.now.nodes }
-        ensures item { slice_get self.now.nodes number ≡ Some result.now }
-        ensures says { told self.now number ≡ say_as result.now.form number (line_of (bare_trees self.now.shapes) result.now) (told self.now result.now.ctx) (told self.now result.now.first) }
-        ensures named { named_told self.now number ≡ say_as result.now.form number (line_of (named_trees self.now.shapes) result.now) (named_told self.now result.now.ctx) (named_told self.now result.now.first) }
-        ensures links { AllBelow number (node_links result.now) }
-        ensures terms { AllBelow (length self.now.shapes) (term_links result.now) }
+        ensures item { slice_get self.now.nodes number ≡ Some result }
+        ensures says { told self.now number ≡ say_as result.form number (line_of (bare_trees self.now.shapes) result) (told self.now result.ctx) (told self.now result.first) }
+        ensures named { named_told self.now number ≡ say_as result.form number (line_of (named_trees self.now.shapes) result) (named_told self.now result.ctx) (named_told self.now result.first) }
+        ensures links { AllBelow number (node_links result) }
+        ensures terms { AllBelow (length self.now.shapes) (term_links result) }
     {
-        &self.nodes[number]
+        self.nodes[number].node()
     }
 
     /// How many entries the context has that a node is or speaks of, and whether it is typed.
@@ -136,6 +137,7 @@ impl Record {
         requires { number < length self.now.nodes }
         ensures extent { result ≡ extent (told self.now number) }
         ensures limit { result.length < 4294967296 }
+        ensures short { result.length ≤ number }
     {
         self.extents[number]
     }
@@ -184,15 +186,18 @@ impl Record {
         if let Some(fault) = self.link_fault(&node) {
             return Err(fault);
         }
-        let node = kept(node);
-        let extent = self.extent_of(&node);
         let number = self.nodes.len();
         if number >= LINES {
             return Err(RecordFault::Memory);
         }
+        let node = kept(node);
+        let extent = self.extent_of(&node);
+        let Some(line) = Packed::of(&node) else {
+            return Err(RecordFault::Memory);
+        };
         self.nodes.reserve(1)?;
         self.extents.push(extent)?;
-        self.nodes.push(node)?;
+        self.nodes.push(line)?;
         Ok(number)
     }
 
@@ -214,7 +219,7 @@ impl Record {
         let node = kept(*node);
         let number = self.hints.line(node_key(&node))?;
         match self.nodes.get(number) {
-            Some(line) if line.same(&node) => Some(number),
+            Some(line) if line.node().same(&node) => Some(number),
             _ => None,
         }
     }
@@ -233,15 +238,19 @@ impl Record {
         requires { number < length self.old.nodes }
         ensures { self.new ≡ self.old }
     {
-        let key = node_key(&self.nodes[number]);
+        let key = node_key(&self.nodes[number].node());
         self.hints.note(self.alloc, key, number);
     }
 
-    /// Gives the memory of the hints back. The tables stay as they are.
-    pub fn forget(&mut self)
+    /// Gives back the memory of the hints and of what the tables have to spare. The tables stay as they are.
+    pub fn trim(&mut self)
         ensures { self.new ≡ self.old }
     {
         self.hints = Hints::new(self.alloc);
+        self.shapes.shrink_to_fit();
+        self.measures.shrink_to_fit();
+        self.nodes.shrink_to_fit();
+        self.extents.shrink_to_fit();
     }
 
     /// Each node is linked to earlier nodes and names terms that stand. This is said, and nothing is done.
@@ -318,7 +327,8 @@ impl Record {
 
     // How long the context is that a new node is or speaks of.
     fn extent_of(&self, node: &Node) -> Extent
-        requires { AllBelow (length self.now.nodes) (node_links node.now) }
+        requires links { AllBelow (length self.now.nodes) (node_links node.now) }
+        requires few { length self.now.nodes < 4294967296 }
         ensures { result ≡ extent (say_as node.now.form (length self.now.nodes) (line_of (bare_trees self.now.shapes) node.now) (told self.now node.now.ctx) (told self.now node.now.first)) }
     {
         match node.form {

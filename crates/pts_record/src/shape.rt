@@ -116,7 +116,7 @@ impl Node {
 /// What is kept of a context: how many entries it has, and whether none of them is bare.
 #[derive(Clone, Copy, Debug, PartialEq, Eq)]
 pub struct Extent {
-    pub length: usize,
+    pub length: u32,
     pub typed: bool,
 }
 

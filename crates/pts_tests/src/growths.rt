@@ -123,6 +123,6 @@ fn equal_lines_are_kept_once(rt: HostRuntime) {
     let mut record = Record::new(rt.alloc());
     assert!(rt; takes_in_once(&mut record, &term, 2000));
     assert!(rt; pushes_once(&mut record));
-    record.forget();
+    record.trim();
     assert!(rt; record.terms() == 2000 && record.nodes() == 1);
 }

@@ -23,7 +23,7 @@ pub returns-in-Ok-clause-valid : goal.returns-in-Ok-clause-valid
 returns-in-Ok-clause-valid c = λ S G v.
     let r = c.args.proof.now in
     let j = c.args.judged in
-    let n = c.node.result.now in
+    let n = c.node.result in
     let d = itself_told (named_told r c.args.ctx) n.form c.args.ctx (line_of (named_trees r.shapes) n) (named_told r n.ctx) (named_told r n.first) c.node.ensures.named c.requires.typed.0 in
     node_valid r c.add_node.new.self (thin_of c.args.ctx j) S G c.in-Ok.ensures.added (thin_ok r c.args.ctx c.requires.typed S G j.subject j.claim c.args.ctx j 0 c.requires.judged d (unlifted (bare_at r.shapes j.subject) (bare_at r.shapes j.subject) refl) (unlifted (bare_at r.shapes j.claim) (bare_at r.shapes j.claim) refl)) v
 

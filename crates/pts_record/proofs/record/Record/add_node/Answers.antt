@@ -4,8 +4,8 @@ use Rattle.pts_record.proofs.Faults.{node_fits}
 use Rattle.pts_record.proofs.Grow.{node_added}
 use Rattle.pts_record.proofs.record.Record.add_node.Goals as goal
 
-pub extent_of-extent-requires : goal.extent_of-extent-requires
-extent_of-extent-requires c =
+pub extent_of-extent-requires-clause-links : goal.extent_of-extent-requires-clause-links
+extent_of-extent-requires-clause-links c =
     subst (λ n. AllBelow (length c.args.self.now.nodes) (node_links n)) (sym c.kept-node.ensures) (node_fits c.args.self.now c.args.node (sym c.link_fault.ensures ∙ c.in_default.is)).0
 
 pub invariant_of-self-2 : goal.invariant_of-self-2

@@ -9,4 +9,7 @@ pub returns-clause-extent : goal.returns-clause-extent
 returns-clause-extent c = extent_is _ _ _ _ c.args.self.now c.self.invariant c.self.view_is c.args.number c.index.result.now c.requires c.index.ensures
 
 pub returns-clause-limit : goal.returns-clause-limit
-returns-clause-limit c = extent_small _ _ _ _ c.args.self.now c.self.invariant c.self.view_is c.args.number c.index.result.now c.requires c.index.ensures
+returns-clause-limit c = (extent_small _ _ _ _ c.args.self.now c.self.invariant c.self.view_is c.args.number c.index.result.now c.requires c.index.ensures).0
+
+pub returns-clause-short : goal.returns-clause-short
+returns-clause-short c = (extent_small _ _ _ _ c.args.self.now c.self.invariant c.self.view_is c.args.number c.index.result.now c.requires c.index.ensures).1
