@@ -1,6 +1,5 @@
 -- Work that is told again over a record that has grown.
-use Rattle.std.proofs.Common.{◌≡◌, ℕ, ◌<◌, refl, ap, ◌∙◌, sym, subst, List, length, Result, Ok, Err}
-use Rattle.std.specs.Result.{IsErr, IsErrAnd}
+use Rattle.std.proofs.Common.{◌≡◌, ℕ, ◌<◌, refl, ap, ◌∙◌, sym, subst, List, length, Result}
 use Rattle.pts_record.specs.declared.shape.Shape.{Shape}
 use Rattle.pts_names.specs.Name.{Name}
 use Rattle.pts_terms.specs.Tree.{Bare, bare, let_in, pi, named_pi, named_let}
@@ -16,24 +15,16 @@ use Rattle.pts_reduce.specs.Chain.{entries_of}
 use Rattle.pts_infer.specs.declared.fault.Fault.{Fault}
 use Rattle.pts_infer.specs.declared.fault.Misfit.{Misfit}
 use Rattle.pts_infer.specs.declared.judgements.Function.{Function}
-use Rattle.pts_infer.specs.Given.{Gives, Fits, MisfitsWith, StopsWith, IsFunction}
+use Rattle.pts_infer.specs.Given.{Gives, Fits, IsFunction}
 
 pub gives_as : {X A : Type 0} (ss : List Shape) (value : X → A) (r : Result X Fault) (k : ℕ) (p q : Run Flaw A) → p ≡ q → Gives ss value r k q → Gives ss value r k p
 gives_as ss value r k p q e h = subst (Gives ss value r k) (sym e) h
-
-pub stops_as : {A : Type 0} (ss : List Shape) (e : Fault) (k : ℕ) (p q : Run Flaw A) → p ≡ q → StopsWith ss e k q → StopsWith ss e k p
-stops_as ss f k p q e h = subst (StopsWith ss f k) (sym e) h
 
 pub fits_as : {X : Type 0} (ss : List Shape) (r : Result X Misfit) (k : ℕ) (p q : Run FitFlaw (Unit {0})) → p ≡ q → Fits ss r k q → Fits ss r k p
 fits_as ss r k p q e h = subst (Fits ss r k) (sym e) h
 
 pub entries_stay : (a b : Tables) (c : ℕ) → Keeps a b → c < length a.nodes → entries_of b c ≡ entries_of a c
 entries_stay a b c g h = ap (λ m. (scope_of m).entries) (told_stays a b c g h)
-
--- A misfit that is handed on is the same.
-pub handed_misfit : {X : Type 0} (ss : List Shape) (r : Result X Misfit) (e : Misfit) (k : ℕ) (a : Run FitFlaw (Unit {0})) → IsErr r → IsErrAnd r (λ x. x ≡ e) → MisfitsWith ss e k a → Fits ss r k a
-handed_misfit ss (Ok x) e k a i p h = absurd (cc i)
-handed_misfit ss (Err f) e k a i p h = subst (λ x. MisfitsWith ss x k a) (sym p) h
 
 -- What a term is made of, over a record that has grown; the parts may be told by equal numbers.
 pub parts_there : (a b : Tables) (make : Bare → Bare → Bare) (t f g y z : ℕ) → Keeps a b → t < length a.shapes → f < length a.shapes → g < length a.shapes → y ≡ f → z ≡ g → bare_at a.shapes t ≡ make (bare_at a.shapes f) (bare_at a.shapes g) → bare_at b.shapes t ≡ make (bare_at b.shapes y) (bare_at b.shapes z)

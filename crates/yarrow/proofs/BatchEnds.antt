@@ -1,6 +1,6 @@
 -- The ways in which a run of `batch` ends.
 use Rattle.std.proofs.Common.{◌≡◌, ℕ, inl, inr, List, [], ◌++◌, length, take, refl, sym, ap, ◌∙◌, subst, arith, true, false, Option, Some, None, Result, Ok, Err, append-nil}
-use Rattle.std.specs.Prelude.{IfSome, if◌then◌else◌}
+use Rattle.std.specs.Prelude.{IfSome}
 use Rattle.std.specs.Io.KnownBytes.{append_known}
 use Rattle.std.proofs.lemmas.List.{take_all}
 use Rattle.pts_names.specs.Name.{Name}
@@ -15,7 +15,7 @@ use Rattle.pts_spec.specs.SpecFile.{system_of}
 use Rattle.pts_batch.specs.Batches.{Answer, Answers}
 use Rattle.yarrow.specs.declared.system.Unready.{Unready}
 use Rattle.yarrow.specs.declared.system.Unready.TheVariants.{LibraryFailed, NoFile, TooLong, Refused, NoMemory}
-use Rattle.yarrow.specs.Runs.{Outside, PrintsPart, only_sink}
+use Rattle.yarrow.specs.Runs.{Outside, PrintsPart}
 use Rattle.yarrow.specs.Systems.{Holdings, HasFile, IsUnread, RefusesFile, unready_line, unready_status}
 use Rattle.yarrow.specs.Formats.{Writes}
 use Rattle.yarrow.specs.Batches.{file_name, text_of, done_line, answer_text, answer_status, AnswerPrints, whole, no_memory, ModulePrints, answered, no_answer, UnreadyPrints, told, no_memory_to_tell, FilesPrint, no_system, in_system, no_memory_for_it, BatchPrints, no_specification, no_file, both_read, no_memory_at_all, IsLegalIn, IsBatchRun}
@@ -91,10 +91,6 @@ module_unanswered S M bytes o st G e g w quiet =
 pub none_entered_legal : (S : Specification) (G : List (Global Name)) → G ≡ [] → Legal S (bare_front G)
 none_entered_legal S G e = subst (λ H. Legal S (bare_front H)) (sym e) legal_empty
 
--- by the text of the specification
-pub legal_in : (text : List ℕ) (S : Specification) (G : List (Global Name)) → system_of text ≡ Ok S → Legal S (bare_front G) → IsLegalIn (system_of text) G
-legal_in text S G e l = subst (λ r. IsLegalIn r G) (sym e) l
-
 empty_in : (r : Result Specification SpecFault) → IsLegalIn r []
 empty_in (Ok S) = legal_empty
 empty_in (Err e) = refl
@@ -163,7 +159,3 @@ module _ (name M : List ℕ) (h : Holdings) (o : Outside) (st : ℕ) (G : List (
     legal = some_legal_in (system_of text) G l;
     chosen = chosen_by name h.files text G has l;
   }
-
--- what a run shows of its sink, whatever the source
-pub any_source : (name M : List ℕ) (h : Holdings) (o : Outside) (st : ℕ) (G : List (Global Name)) → IsBatchRun name M h (only_sink o.written o.written_after o.write_faults o.write_faults_after) st G → IsBatchRun name M h o st G
-any_source name M h o st G r = record { prints = r.prints; legal = r.legal; chosen = r.chosen }

@@ -3,7 +3,7 @@ use Rattle.std.proofs.Common.{◌≡◌, ℕ, zero, suc, ◌+◌, ◌<◌, ◌�
 use Rattle.std.specs.Prelude.{codes}
 use Rattle.std.specs.Io.KnownBytes.{append_known}
 use Rattle.std.proofs.Math.Seq.{take-append-add}
-use Rattle.std.proofs.lemmas.List.{take_all, take-append-le}
+use Rattle.std.proofs.lemmas.List.{take-append-le}
 use Rattle.pts_io.proofs.Known.{append_known-append}
 use Rattle.yarrow.specs.Batches.{text_of}
 
@@ -42,6 +42,3 @@ module _ (lines : List (List ℕ)) (i : ℕ) (d line : List ℕ) (old mid new : 
       let long : length first + n ≤ length (text_of lines) = omega (arith, short, ap length whole_text, length-append (first ++ line) rest) in
       let same : take (length first + n) (text_of lines) ≡ first ++ take n line = ap (take (length first + n)) whole_text ∙ (take-append-le (length first + n) (first ++ line) rest short ∙ take-append-add first line n) in
       (length first + n, long, after ∙ (ap (λ w. append_known w (take n line)) before ∙ (append_known-append old first (take n line) ∙ ap (append_known old) (sym same))))
-
-pub all_printed : (lines : List (List ℕ)) (i : ℕ) (old new : Option (List ℕ)) → length lines ≤ i → new ≡ append_known old (text_of (take i lines)) → new ≡ append_known old (text_of lines)
-all_printed lines i old new above e = e ∙ ap (λ t. append_known old (text_of t)) (take_all i lines above)
