@@ -40,7 +40,7 @@ pub fn batch(
     ensures evidence { IfOk result (λ r. Evident world.now.system r) }
 {
     match read_module(alloc, name, bytes) {
-        Ok(file) => batch_file(alloc, world, name, bytes, &file, budget),
+        Ok(file) => batch_file(alloc, world, name, bytes, file, budget),
         Err(fault) => bad_file(alloc, name, &fault),
     }
 }
@@ -83,16 +83,16 @@ fn batch_file(
     world: &World,
     name: &Name,
     bytes: &[u8],
-    file: &Module,
+    file: Module,
     budget: u64,
 ) -> Result<Batch, AllocError>
-    requires read { module_of name.now bytes.now ≡ Ok (file_of file.now) }
+    requires read { module_of name.now bytes.now ≡ Ok (file_of file) }
     requires short { is_short name.now ≡ true }
-    requires names { AllShort (file_of file.now).stated }
+    requires names { AllShort (file_of file).stated }
     ensures answer { IfOk result (λ r. Answers world.now.system name.now bytes.now budget (answer_seen r) r.units) }
     ensures evidence { IfOk result (λ r. Evident world.now.system r) }
 {
-    match unbuilt_line(file) {
+    match unbuilt_line(&file) {
         Some(line) => not_built(alloc, name, line),
         None => batch_lines(alloc, world, name, bytes, file, budget),
     }
@@ -126,19 +126,18 @@ fn batch_lines(
     world: &World,
     name: &Name,
     bytes: &[u8],
-    file: &Module,
+    file: Module,
     budget: u64,
 ) -> Result<Batch, AllocError>
-    requires read { module_of name.now bytes.now ≡ Ok (file_of file.now) }
+    requires read { module_of name.now bytes.now ≡ Ok (file_of file) }
     requires short { is_short name.now ≡ true }
-    requires names { AllShort (file_of file.now).stated }
-    requires built { unbuilt_line (file_of file.now) ≡ None }
+    requires names { AllShort (file_of file).stated }
+    requires built { unbuilt_line (file_of file) ≡ None }
     ensures answer { IfOk result (λ r. Answers world.now.system name.now bytes.now budget (answer_seen r) r.units) }
     ensures evidence { IfOk result (λ r. Evident world.now.system r) }
 {
     let mut meter = Meter::new(budget);
-    let lines = file.declarations.as_slice();
-    match load(alloc, &world.system, name, lines, &mut meter) {
+    match load(alloc, &world.system, name, file.declarations, &mut meter) {
         Ok(loading) => finish(alloc, &world.system, name, loading, meter.spent()),
         Err(fault) => stopped(alloc, &world.system, name, &fault, meter.spent()),
     }

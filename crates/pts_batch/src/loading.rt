@@ -50,6 +50,7 @@ impl From<AllocError> for LoadFault {
 }
 
 /// The declarations of the lines of the module with this label, over the empty front, in which the label is marked first.
+/// The memory of each line is given back as soon as its declaration has entered.
 ///
 /// # Errors
 ///
@@ -58,20 +59,21 @@ pub fn load(
     alloc: Global,
     system: &System,
     label: &Name,
-    lines: &[(usize, ModuleLine)],
+    lines: Vec<(usize, ModuleLine)>,
     meter: &mut Meter,
 ) -> Result<Loading, LoadFault>
     requires label { length label.now ≤ 63 }
-    requires names { AllDeclarable lines.now }
-    ensures loaded { IfOk result (λ l. Loads system.now label.now [] (map numbered lines.now) (left meter.old) (entered l.context.entries) (left meter.new)) }
+    requires names { AllDeclarable lines.items }
+    ensures loaded { IfOk result (λ l. Loads system.now label.now [] (map numbered lines.items) (left meter.old) (entered l.context.entries) (left meter.new)) }
     ensures labels { IfOk result (λ l. l.context.labels ≡ (label.now, 0) ∷ []) }
     ensures entries { IfOk result (λ l. l.context.entries ≡ entries_of l.declarations.items) }
     ensures evidence { IfOk result (λ l. MayFollow system.now [] l.declarations.items) }
-    ensures refused { IfErr result (λ e. Stops (Loads system.now label.now [] (map numbered lines.now)) (left meter.old) (left meter.new) e) }
+    ensures refused { IfErr result (λ e. Stops (Loads system.now label.now [] (map numbered lines.items)) (left meter.old) (left meter.new) e) }
     ensures later { Later meter.old meter.new }
 {
     let mut loading = begin(alloc, label, lines.len())?;
-    for line in lines {
+    let mut rest = lines.into_iter();
+    while let Some(line) = rest.next() {
         match loading.add(alloc, system, label, &line.1, meter) {
             Ok(()) => {}
             Err(fault) => return Err(refused_at(line.0, fault)),

@@ -14,4 +14,4 @@ invariant_of-self-2 c =
     let links = subst (λ n. AllBelow (length c.args.self.now.nodes) (node_links n)) (sym c.kept-node.ensures) fits.0 in
     let few : length c.self.inside.nodes.items < 4294967296 = omega (arith, c.self.inside.nodes.ok, c.len-number.ensures, c.if-number-ge-LINES.false) in
     let terms = subst (λ n. AllBelow (length c.args.self.now.shapes) (term_links n)) (sym c.kept-node.ensures) fits.1 in
-    node_added _ _ _ _ c.args.self.now c.kept-node.result c.extent_of-extent.result _ _ c.self.invariant c.self.view_is few links terms c.extent_of-extent.ensures (c.in_ok-push-2.ensures.items ∙ ap (λ l. l ++ c.kept-node.result ∷ []) c.in_ok-reserve.ensures.items) c.in_ok-push.ensures.items
+    node_added _ _ _ _ c.args.self.now c.kept-node.result c.extent_of-extent.result _ _ c.self.invariant c.self.view_is few links terms c.extent_of-extent.ensures (c.in_ok-push-2.ensures.items ∙ ap (λ x. c.reserve.new.self.items ++ x ∷ []) c.in-Some-of.ensures ∙ ap (λ l. l ++ c.kept-node.result ∷ []) c.in_ok-reserve.ensures.items) c.in_ok-push.ensures.items
