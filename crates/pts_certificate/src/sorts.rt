@@ -86,10 +86,10 @@ impl Sorts {
     ) -> Result<(SortName, SortName), Refusal>
         ensures { Answers result (two_sorts self.now fields.entry) }
     {
-        let first = self.one(alloc, fields.field()?)?;
-        let second = self.one(alloc, fields.field()?)?;
+        let first = fields.field()?;
+        let second = fields.field()?;
         fields.end()?;
-        Ok((first, second))
+        Ok((self.one(alloc, first)?, self.one(alloc, second)?))
     }
 
     /// The same of three.

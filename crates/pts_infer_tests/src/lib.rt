@@ -4,3 +4,7 @@
 
 #[cfg(test)]
 mod inference;
+#[cfg(test)]
+mod judgements;
+#[cfg(test)]
+mod simple;
