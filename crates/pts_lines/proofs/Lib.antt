@@ -7,7 +7,9 @@ pub mod Several
 pub mod Machine
 pub mod Rests
 pub mod Letter
+pub mod Marks
 pub mod Languages
+pub mod Many
 pub mod Fits
 pub mod Told
 pub mod Views

@@ -3,7 +3,7 @@ use Rattle.std.proofs.Common.{ℕ, ◌≡◌, ◌≢◌, ◌⊎◌, inl, inr, re
 use Rattle.std.proofs.lemmas.List.{append-nil}
 use Rattle.std.specs.Prelude.{codes}
 use Rattle.pts_tokens.specs.declared.token.Token.{Token}
-use Rattle.pts_tokens.specs.declared.token.Token.TheVariants.{In, Colon, Assign, Dot, Arrow, Open, Close, Sort, Name as Word}
+use Rattle.pts_tokens.specs.declared.token.Token.TheVariants.{In, Colon, Assign, Dot, Arrow, Open, Close, Semicolon, Sort, Name as Word}
 use Rattle.pts_tokens.specs.Tokens.{Spot}
 use Rattle.pts_syntax.specs.declared.kind.Kind.{Kind}
 use Rattle.pts_syntax.specs.declared.kind.Kind.TheVariants as kind
@@ -53,11 +53,49 @@ abbrev pub Pending : State Syntax → Type 0
 Pending (after K f) = Held K f
 Pending S = Unit {0}
 
+-- Something is open where the machine refuses a token.
+pending_fail : (R : State Syntax) (p : ℕ) (t : Token) (k : Kind) → step syntax always R (p, t) ≡ fail k → Pending R
+pending_fail (begin K) p t k h = tt
+pending_fail (binder b K) p t k h = tt
+pending_fail (binder_sign b x K) p t k h = tt
+pending_fail (let_name K) p t k h = tt
+pending_fail (let_sign x K) p t k h = tt
+pending_fail (after K f) p (Sort s) k h = absurd (cc h)
+pending_fail (after K f) p (Word x) k h = absurd (cc h)
+pending_fail (after K f) p Open k h = absurd (cc h)
+pending_fail (after K f) p Arrow k h = absurd (cc h)
+pending_fail (after K f) p t k h = by (innermost K f)
+  where
+    by : Loose K f ⊎ Held K f → Held K f
+    by (inr g) = g
+    by (inl g) = let m : stay (g.0 t).0 ≡ fail k = sym (g.0 t).1 ∙ h in absurd (cc m)
+
+pub pending_end : (R : State Syntax) → Pending R → end_of syntax 0 R ≡ expected 0 (kind_at R)
+pending_end (begin K) h = refl
+pending_end (binder b K) h = refl
+pending_end (binder_sign b x K) h = refl
+pending_end (let_name K) h = refl
+pending_end (let_sign x K) h = refl
+pending_end (after K f) h = h.2
+
+-- Or the tokens are a whole term.
+pub pending_or_whole : (R : State Syntax) → Pending R ⊎ ((U : Syntax) × (end_of syntax 0 R ≡ read U []))
+pending_or_whole (begin K) = inl tt
+pending_or_whole (binder b K) = inl tt
+pending_or_whole (binder_sign b x K) = inl tt
+pending_or_whole (let_name K) = inl tt
+pending_or_whole (let_sign x K) = inl tt
+pending_or_whole (after K f) = by (innermost K f)
+  where
+    by : Loose K f ⊎ Held K f → Held K f ⊎ ((U : Syntax) × (whole syntax 0 K f ≡ read U []))
+    by (inr g) = inl g
+    by (inl g) = inr g.1
+
 -- A language of texts that begin with a term: a term's tokens can go on to one, and the machine reads a term from each.
 module _ (Is : List Spot → Type 0)
     (inside : (vs us : List Spot) (T : Syntax) → Reads (vs ++ us) T [] → CanGoOn Is vs)
     (begins : (ts : List Spot) → Is ts → (T : Syntax) × (rest : List Spot) × (run syntax always 0 (begin []) ts ≡ read T rest)) where
-  goes_on : (vs : List Spot) → Viable vs → CanGoOn Is vs
+  pub goes_on : (vs : List Spot) → Viable vs → CanGoOn Is vs
   goes_on vs v = inside vs v.0 v.1 v.2
 
   module _ (vs : List Spot) (R : State Syntax) (e : reach (begin []) vs ≡ Some R) where
@@ -70,10 +108,10 @@ module _ (Is : List Spot → Type 0)
         let u : expected p k ≡ read b.0 b.1 = ap (λ m. follow always 0 m (p, t) us) (sym h) ∙ s in
         absurd (cc u)
 
-    follows : (t : Token) (Q : State Syntax) → step syntax always R (0, t) ≡ go Q → CanFollow Is vs t
+    pub follows : (t : Token) (Q : State Syntax) → step syntax always R (0, t) ≡ go Q → CanFollow Is vs t
     follows t Q h = goes_on (vs ++ (0, t) ∷ []) (can vs R e t Q h)
 
-    unended : (p : ℕ) (k : Kind) → end_of syntax 0 R ≡ expected p k → ¬ Is vs
+    pub unended : (p : ℕ) (k : Kind) → end_of syntax 0 R ≡ expected p k → ¬ Is vs
     unended p k h d =
         let b = begins vs d in
         let u : expected p k ≡ read b.0 b.1 = sym h ∙ (sym (reach_run vs [] 0 (begin []) R e) ∙ (ap (run syntax always 0 (begin [])) (append-nil vs) ∙ b.2)) in
@@ -89,50 +127,12 @@ module _ (Is : List Spot → Type 0)
   wants : (vs : List Spot) (R : State Syntax) → reach (begin []) vs ≡ Some R → Pending R → Wants Is vs (kind_at R)
   wants vs (begin K) e h =
       let cant : (t : Token) → step syntax always (begin K) (0, t) ≡ fail kind.Term → ¬ CanFollow Is vs t = λ t g. cannot vs (begin K) e 0 t kind.Term g in
-      a_term (codes "*") (follows vs (begin K) e (Sort (codes "*")) _ refl) (cant Colon refl) (cant Dot refl) (cant Assign refl) (cant In refl) (cant Close refl) (unended vs (begin K) e 0 kind.Term refl)
+      a_term (codes "*") (follows vs (begin K) e (Sort (codes "*")) _ refl) (cant Colon refl) (cant Dot refl) (cant Assign refl) (cant In refl) (cant Close refl) (cant Semicolon refl) (unended vs (begin K) e 0 kind.Term refl)
   wants vs (binder b K) e h = a_name (follows vs (binder b K) e (Word underscore) (binder_sign b underscore K) (plain_goes underscore _ underscore_is_identifier)) (λ s. cannot vs (binder b K) e 0 (Sort s) kind.Name refl)
   wants vs (binder_sign b x K) e h = a_colon (unended vs (binder_sign b x K) e 0 kind.Colon refl) (cannot vs (binder_sign b x K) e 0 Assign kind.Colon refl) (follows vs (binder_sign b x K) e Colon _ refl)
   wants vs (let_name K) e h = a_name (follows vs (let_name K) e (Word underscore) (let_sign underscore K) (plain_goes underscore _ underscore_is_identifier)) (λ s. cannot vs (let_name K) e 0 (Sort s) kind.Name refl)
   wants vs (let_sign x K) e h = an_assign (unended vs (let_sign x K) e 0 kind.Assign refl) (follows vs (let_sign x K) e Assign _ refl)
   wants vs (after K f) e h = wants_closer vs K f (closer K) e refl h (closes K f)
-
-  -- Something is open where the machine refuses a token.
-  pending_fail : (R : State Syntax) (p : ℕ) (t : Token) (k : Kind) → step syntax always R (p, t) ≡ fail k → Pending R
-  pending_fail (begin K) p t k h = tt
-  pending_fail (binder b K) p t k h = tt
-  pending_fail (binder_sign b x K) p t k h = tt
-  pending_fail (let_name K) p t k h = tt
-  pending_fail (let_sign x K) p t k h = tt
-  pending_fail (after K f) p (Sort s) k h = absurd (cc h)
-  pending_fail (after K f) p (Word x) k h = absurd (cc h)
-  pending_fail (after K f) p Open k h = absurd (cc h)
-  pending_fail (after K f) p Arrow k h = absurd (cc h)
-  pending_fail (after K f) p t k h = by (innermost K f)
-    where
-      by : Loose K f ⊎ Held K f → Held K f
-      by (inr g) = g
-      by (inl g) = let m : stay (g.0 t).0 ≡ fail k = sym (g.0 t).1 ∙ h in absurd (cc m)
-
-  pending_end : (R : State Syntax) → Pending R → end_of syntax 0 R ≡ expected 0 (kind_at R)
-  pending_end (begin K) h = refl
-  pending_end (binder b K) h = refl
-  pending_end (binder_sign b x K) h = refl
-  pending_end (let_name K) h = refl
-  pending_end (let_sign x K) h = refl
-  pending_end (after K f) h = h.2
-
-  -- Or the tokens are a whole term.
-  pending_or_whole : (R : State Syntax) → Pending R ⊎ ((U : Syntax) × (end_of syntax 0 R ≡ read U []))
-  pending_or_whole (begin K) = inl tt
-  pending_or_whole (binder b K) = inl tt
-  pending_or_whole (binder_sign b x K) = inl tt
-  pending_or_whole (let_name K) = inl tt
-  pending_or_whole (let_sign x K) = inl tt
-  pending_or_whole (after K f) = by (innermost K f)
-    where
-      by : Loose K f ⊎ Held K f → Held K f ⊎ ((U : Syntax) × (whole syntax 0 K f ≡ read U []))
-      by (inr g) = inl g
-      by (inl g) = inr g.1
 
   module _ (length : ℕ) (ts : List Spot) (k : Kind) where
     refused_token : (p : ℕ) (vs us : List Spot) (t : Token) (R : State Syntax) → run syntax always length (begin []) ts ≡ expected p k → ts ≡ vs ++ (p, t) ∷ us → reach (begin []) vs ≡ Some R → Viable vs → ¬ Viable (vs ++ (p, t) ∷ []) → grammar.Wants vs k → (m : Move Syntax) → step syntax always R (p, t) ≡ m → Refused Is length ts k p

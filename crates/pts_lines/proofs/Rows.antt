@@ -20,7 +20,8 @@ use Rattle.pts_lines.specs.declared.command.Command.TheVariants.{OfNothing, OfPl
 use Rattle.pts_lines.specs.Lines.{Line, alone, of_plain, of_name, of_term, of_type, renaming, budget, equality, definition, instantiation, Terms, Follows, nothing, a_plain, a_name, a_term, a_type, two_names, a_number, two_terms, untyped, with_type, no_terms, some_terms}
 use Rattle.pts_lines.specs.Reading.{Behind}
 use Rattle.pts_lines.specs.Forms.{Form, run_form, run_command, alone_form, plain_form, placed_form, number_form, names_form, term_form, typed_form, terms_form, body_form, definition_form, instance_form, pair, all_of}
-use Rattle.pts_lines.proofs.Languages.{lift_refused, lift_many}
+use Rattle.pts_lines.specs.Refusals.{NoneTooMany}
+use Rattle.pts_lines.proofs.Languages.{none_of_nothing, lift_refused, lift_none, lift_first}
 use Rattle.pts_lines.proofs.Fits.{Fits, Texts}
 use Rattle.pts_lines.proofs.Told.{Told, told}
 use Rattle.pts_lines.proofs.Views.{PlainAt, plain_at, LabelAt, label_at, NameAt, name_at, NumberAt, number_at, ColonAt, colon_at, SignAt, sign_colon, sign_assign, is_plain_at, is_label_at, is_name_at, is_number_at, is_colon_at, is_sign_at, plain_said, label_said}
@@ -38,11 +39,14 @@ module _ {R : Type 0} (size : ℕ) (c : Command) (F : Form R) (make : R → Line
   texts_from : (ts : List Spot) → Behind c ts → Texts F ts
   texts_from ts (L, d) = from ts L d
 
+  none : (ts : List Spot) → NoneTooMany (Texts F) 2000 ts → NoneTooMany (Behind c) 2000 ts
+  none = lift_none (Behind c) (Texts F) [] texts_to texts_from 2000 refl (none_of_nothing (Behind c) 2000)
+
   made : (ts : List Spot) (r : Result R ReadFault) → Told (Texts F) size (Fits F) ts r → Told (Behind c) size (Gives c) ts (and_then r (λ a. Ok (make a)))
-  made ts (Ok a) d = to ts (Some a) d
-  made ts (Err (Expected p k)) d = lift_refused (Behind c) (Texts F) [] texts_to texts_from size ts k p d
-  made ts (Err (TooDeep p)) (inl d) = inl (lift_many (Behind c) (Texts F) [] texts_to texts_from refl 2000 ts p d)
-  made ts (Err (TooDeep p)) (inr d) = inr (d.0, to ts None d.1)
+  made ts (Ok a) d = (to ts (Some a) d.0, none ts d.1)
+  made ts (Err (Expected p k)) d = (lift_refused (Behind c) (Texts F) [] texts_to texts_from size ts k p d.0, none ts d.1)
+  made ts (Err (TooDeep p)) (inl d) = inl (lift_first (Behind c) (Texts F) [] texts_to texts_from 2000 refl (none_of_nothing (Behind c) 2000) ts p d)
+  made ts (Err (TooDeep p)) (inr d) = inr (d.0, to ts None d.1, none ts d.2)
   made ts (Err (BadChar p)) d = d
   made ts (Err (LongName p)) d = d
   made ts (Err (UnknownName p x)) d = d

@@ -18,22 +18,27 @@ use Rattle.pts_lines.specs.declared.command.Command.{Command}
 use Rattle.pts_lines.specs.declared.command.Declaring.{Declaring}
 use Rattle.pts_lines.specs.Words.{command, declared}
 use Rattle.pts_lines.specs.Lines.{Line, Follows, LineReads, DeclarationReads}
-use Rattle.pts_lines.specs.Refusals.{Refused, TooMany}
+use Rattle.pts_lines.specs.Refusals.{Refused, NoneTooMany, FirstTooMany}
 use Rattle.pts_lines.specs.Seen.{deepest, terms_of}
 
 -- What can stand behind the word of a command.
 abbrev pub Behind : Command → List Spot → Type 0
 Behind c ts = (L : Line) × Follows c ts L
 
+-- The tokens are a line with these words.
+abbrev pub IsLine : (Name → Option Command) → List Spot → Type 0
+IsLine words ts = (L : Line) × LineReads words ts L
+
 -- How the grammar refuses the tokens of a text of this length: there is no word, which is wanted at the text's end; or
--- the first token is the word of no command, which is answered for place 0; or what stands behind it can't; or the line
--- has a term that is deeper than 2,000.
+-- the first token is the word of no command, which is answered for place 0; or what stands behind it can't; or a
+-- parenthesis is one too many, the first such one being answered; or the line has a term that is deeper than 2,000. A
+-- parenthesis that is one too many comes before whatever is wrong behind it.
 pub data RefusesLine (words : Name → Option Command) (length : ℕ) : List Spot → ReadFault → Type 0 where
   no_word : RefusesLine words length [] (Expected length kind.Command)
   no_command : {s : Spot} {us : List Spot} → ((w : Name) (c : Command) → s.1 ≡ Word w → words w ≡ Some c → ⊥) → RefusesLine words length (s ∷ us) (Expected 0 kind.Command)
-  behind_word : {p q : ℕ} {w : Name} {c : Command} {us : List Spot} {k : Kind} → words w ≡ Some c → Refused (Behind c) length us k q → RefusesLine words length ((p, Word w) ∷ us) (Expected q k)
-  many_open : {p q : ℕ} {w : Name} {c : Command} {us : List Spot} → words w ≡ Some c → TooMany (Behind c) 2000 us q → RefusesLine words length ((p, Word w) ∷ us) (TooDeep q)
-  deep_term : {ts : List Spot} {L : Line} → LineReads words ts L → 2000 < deepest (terms_of L) → RefusesLine words length ts (TooDeep length)
+  behind_word : {p q : ℕ} {w : Name} {c : Command} {us : List Spot} {k : Kind} → words w ≡ Some c → Refused (Behind c) length us k q → NoneTooMany (IsLine words) 2000 ((p, Word w) ∷ us) → RefusesLine words length ((p, Word w) ∷ us) (Expected q k)
+  many_open : {ts : List Spot} {q : ℕ} → FirstTooMany (IsLine words) 2000 ts q → RefusesLine words length ts (TooDeep q)
+  deep_term : {ts : List Spot} {L : Line} → LineReads words ts L → 2000 < deepest (terms_of L) → NoneTooMany (IsLine words) 2000 ts → RefusesLine words length ts (TooDeep length)
 
 -- The text says this line: its tokens are that line.
 abbrev pub Says : List ℕ → Line → Type 0
@@ -56,6 +61,10 @@ RefusesText words text (TooDeep p) = IsRefused words text (TooDeep p)
 RefusesText words text (UnknownName p x) = ⊥
 RefusesText words text (UnknownSort p w) = ⊥
 RefusesText words text Memory = Unit {0}
+
+-- No parenthesis of the text is one too many.
+abbrev pub FewOpen : (Name → Option Command) → List ℕ → Type 0
+FewOpen words text = (ts : List Spot) × (tokens_from text 0 ≡ Ok ts) × NoneTooMany (IsLine words) 2000 ts
 
 -- The same by the function that goes through the tokens from the left.
 abbrev pub after_tokens : {A : Type 0} → Result (List Spot) TokenFault → (List Spot → Result A ReadFault) → Result A ReadFault

@@ -19,7 +19,7 @@ CanFollow Is vs t = CanGoOn Is (vs ++ (0, t) ∷ [])
 
 -- What must stand behind the tokens vs. Where the text can end there, that is its end; else, where `:=` can stand, that;
 -- else the sign that can stand there, also where a term before it could still go on. A name is wanted where `_` is one;
--- a term where one can begin, and nothing can end or be closed.
+-- a term where one can begin, no sign can stand, nothing can be closed, and the text can't end.
 pub data Wants (Is : List Spot → Type 0) (vs : List Spot) : Kind → Type 0 where
   the_end : Is vs → Wants Is vs kind.End
   an_assign : ¬ Is vs → CanFollow Is vs token.Assign → Wants Is vs kind.Assign
@@ -31,7 +31,7 @@ pub data Wants (Is : List Spot → Type 0) (vs : List Spot) : Kind → Type 0 wh
   a_number : (ds : List ℕ) → CanFollow Is vs (token.Number ds) → Wants Is vs kind.Number
   a_name : CanFollow Is vs (token.Name underscore) → ((s : Text) → ¬ CanFollow Is vs (token.Sort s)) → Wants Is vs kind.Name
   a_plain : (x : Text) → CanFollow Is vs (token.Name x) → ¬ CanFollow Is vs (token.Name underscore) → ((s : Text) → ¬ CanFollow Is vs (token.Sort s)) → Wants Is vs kind.Plain
-  a_term : (s : Text) → CanFollow Is vs (token.Sort s) → ¬ CanFollow Is vs token.Colon → ¬ CanFollow Is vs token.Dot → ¬ CanFollow Is vs token.Assign → ¬ CanFollow Is vs token.In → ¬ CanFollow Is vs token.Close → ¬ Is vs → Wants Is vs kind.Term
+  a_term : (s : Text) → CanFollow Is vs (token.Sort s) → ¬ CanFollow Is vs token.Colon → ¬ CanFollow Is vs token.Dot → ¬ CanFollow Is vs token.Assign → ¬ CanFollow Is vs token.In → ¬ CanFollow Is vs token.Close → ¬ CanFollow Is vs token.Semicolon → ¬ Is vs → Wants Is vs kind.Term
 
 -- The kind k must stand at a place of the text with the tokens ts: at the first token with which it can't go on, or at
 -- its end, whose place is given, if it is no text and could go on.
@@ -42,3 +42,11 @@ pub data Refused (Is : List Spot → Type 0) (end : ℕ) (ts : List Spot) (k : K
 -- A parenthesis could be opened at place p, and `limit` are open there already.
 pub data TooMany (Is : List Spot → Type 0) (limit : ℕ) (ts : List Spot) (p : ℕ) : Type 0 where
   too_many : (vs us : List Spot) → ts ≡ vs ++ (p, token.Open) ∷ us → CanGoOn Is (vs ++ (p, token.Open) ∷ []) → limit ≤ open_behind 0 vs → TooMany Is limit ts p
+
+-- No parenthesis is one too many.
+abbrev pub NoneTooMany : (List Spot → Type 0) → ℕ → List Spot → Type 0
+NoneTooMany Is limit ts = (p : ℕ) → ¬ TooMany Is limit ts p
+
+-- The parenthesis at place p is the first that is one too many.
+pub data FirstTooMany (Is : List Spot → Type 0) (limit : ℕ) (ts : List Spot) (p : ℕ) : Type 0 where
+  first_too_many : (vs us : List Spot) → ts ≡ vs ++ (p, token.Open) ∷ us → CanGoOn Is (vs ++ (p, token.Open) ∷ []) → limit ≤ open_behind 0 vs → NoneTooMany Is limit vs → FirstTooMany Is limit ts p

@@ -1,11 +1,11 @@
-ghost use Rattle.std.specs.Prelude.{◌≡◌, ◌≤◌, IfOk, IfErr, MatchOption, take, true, false};
+ghost use Rattle.std.specs.Prelude.{◌≡◌, ◌≤◌, IfOk, OnOk, IfErr, MatchOption, take, true, false};
 ghost use Rattle.std.specs.Str.{is_utf8};
 ghost use Rattle.pts_syntax.specs.Seen.{within};
 ghost use Rattle.pts_syntax.specs.Open.{more};
 ghost use Rattle.pts_parser.specs.Reading.{tokens_from};
 ghost use Rattle.pts_lines.specs.Words.{declaring};
 ghost use Rattle.pts_lines.specs.Seen.{declaration_of, deepest, terms_of};
-ghost use Rattle.pts_lines.specs.Reading.{Declares, RefusesText, declaration_said, declared_at, declared_in, declared_front, declared_first};
+ghost use Rattle.pts_lines.specs.Reading.{Declares, FewOpen, RefusesText, declaration_said, declared_at, declared_in, declared_front, declared_first};
 ghost use Rattle.pts_lines.specs.Forms.{AnswersAs, run_declaration};
 
 use crate::command::Declaring;
@@ -35,6 +35,7 @@ pub fn read_declaration(alloc: Global, text: &str) -> Result<Declaration, ReadFa
     ensures declaration { IfOk result (λ d. Declares text.now (declaration_of d)) }
     ensures depth { IfOk result (λ d. deepest (terms_of (declaration_of d).1) ≤ 2000) }
     ensures exact { AnswersAs declaration_of result (declaration_said text.now) }
+    ensures parentheses { OnOk result (FewOpen declaring text.now) }
     ensures refused { IfErr result (λ e. RefusesText declaring text.now e) }
 {
     let tokens = read_tokens(alloc, text, 0)?;

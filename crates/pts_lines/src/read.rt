@@ -1,10 +1,10 @@
-ghost use Rattle.std.specs.Prelude.{◌≡◌, ◌≤◌, IfOk, IfErr};
+ghost use Rattle.std.specs.Prelude.{◌≡◌, ◌≤◌, IfOk, OnOk, IfErr};
 ghost use Rattle.pts_syntax.specs.Seen.{syntax_of, within};
 ghost use Rattle.pts_syntax.specs.Open.{more};
 ghost use Rattle.pts_lines.specs.Lines.{alone, of_plain, of_name, of_term, of_type};
 ghost use Rattle.pts_lines.specs.Words as words;
 ghost use Rattle.pts_lines.specs.Seen.{line_of, deepest, terms_of};
-ghost use Rattle.pts_lines.specs.Reading.{Says, RefusesText, line_said};
+ghost use Rattle.pts_lines.specs.Reading.{Says, FewOpen, RefusesText, line_said};
 ghost use Rattle.pts_lines.specs.Forms.{AnswersAs, run_command, run_line};
 
 use crate::command::{Alone, Asked, Command, Named, Placed, Typed};
@@ -27,12 +27,14 @@ use std::alloc::Global;
 /// grammar is gone through from the left, and `Expected` names the first token that does not fit, and what must stand
 /// there: inside the terms as `parse_term` says, and else a `Plain` name, any `Name`, a `Number`, a `Semicolon`, a
 /// `Colon` or `Assign`, of which the latter where both fit, or the `End`, where the line may end. For a word that is no
-/// command the answer is `Expected(0, Command)`, wherever it stands. `TooDeep` comes at a parenthesis that is one too
-/// many; and at last, at the text's length, where a term is deeper than 2,000.
+/// command the answer is `Expected(0, Command)`, wherever it stands. `TooDeep` comes at the first parenthesis that is
+/// open beside 2,000 others, before whatever does not fit behind it; and at last, at the text's length, where a term is
+/// deeper than 2,000.
 pub fn read_line(alloc: Global, text: &str) -> Result<Line, ReadFault>
     ensures line { IfOk result (λ l. Says text.now (line_of l)) }
     ensures depth { IfOk result (λ l. deepest (terms_of (line_of l)) ≤ 2000) }
     ensures exact { AnswersAs line_of result (line_said text.now) }
+    ensures parentheses { OnOk result (FewOpen words.command text.now) }
     ensures refused { IfErr result (λ e. RefusesText words.command text.now e) }
 {
     let tokens = read_tokens(alloc, text, 0)?;

@@ -60,6 +60,7 @@ fn a_refusal_names_the_first_token_that_does_not_fit(rt: HostRuntime) {
         ("define x *", 9, Kind::Assign),
         ("define x : * ;", 13, Kind::Assign),
         ("equal a", 7, Kind::Semicolon),
+        ("equal a )", 8, Kind::Semicolon),
         ("equal a ;", 9, Kind::Term),
         ("instance m l ;", 13, Kind::End),
         ("instance m l a ;", 16, Kind::Term),

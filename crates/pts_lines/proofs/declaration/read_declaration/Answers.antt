@@ -4,7 +4,7 @@ use Rattle.pts_syntax.specs.Seen.{within}
 use Rattle.pts_syntax.specs.Open.{more}
 use Rattle.pts_lines.specs.Seen.{declaration_of}
 use Rattle.pts_lines.specs.Forms.{AnswersAs, run_declaration}
-use Rattle.pts_lines.proofs.Lines.{declares, declares_shallow, declares_not, declaration_exact}
+use Rattle.pts_lines.proofs.Lines.{declares, declares_shallow, declaration_few, declares_not, declaration_exact}
 use Rattle.pts_lines.proofs.declaration.read_declaration.Goals as goal
 
 pub read_tokens-requires : goal.read_tokens-requires
@@ -21,3 +21,6 @@ returns-clause-refused c = declares_not c.args.text.now c.in_ok-tokens.tokens.it
 
 pub returns-clause-exact : goal.returns-clause-exact
 returns-clause-exact c = declaration_exact c.args.text.now c.in_ok-tokens.tokens.items c.in_ok-tokens.ensures.tokens c.declaration_at.result (subst (λ ts. AnswersAs declaration_of c.declaration_at.result (run_declaration within more (length c.args.text.now) ts)) c.as_slice.ensures.value c.declaration_at.ensures)
+
+pub returns-clause-parentheses : goal.returns-clause-parentheses
+returns-clause-parentheses c = declaration_few c.args.text.now c.in_ok-tokens.tokens.items c.in_ok-tokens.ensures.tokens c.declaration_at.result (subst (λ ts. AnswersAs declaration_of c.declaration_at.result (run_declaration within more (length c.args.text.now) ts)) c.as_slice.ensures.value c.declaration_at.ensures)

@@ -4,7 +4,7 @@ use Rattle.pts_syntax.specs.Seen.{within}
 use Rattle.pts_syntax.specs.Open.{more}
 use Rattle.pts_lines.specs.Seen.{line_of}
 use Rattle.pts_lines.specs.Forms.{AnswersAs, run_line}
-use Rattle.pts_lines.proofs.Lines.{says, shallow, refuses, line_exact}
+use Rattle.pts_lines.proofs.Lines.{says, shallow, line_few, refuses, line_exact}
 use Rattle.pts_lines.proofs.read.read_line.Goals as goal
 
 pub read_tokens-requires : goal.read_tokens-requires
@@ -21,3 +21,6 @@ returns-clause-refused c = refuses c.args.text.now c.in_ok-tokens.tokens.items c
 
 pub returns-clause-exact : goal.returns-clause-exact
 returns-clause-exact c = line_exact c.args.text.now c.in_ok-tokens.tokens.items c.in_ok-tokens.ensures.tokens c.line.result (subst (λ ts. AnswersAs line_of c.line.result (run_line within more (length c.args.text.now) ts)) c.as_slice.ensures.value c.line.ensures)
+
+pub returns-clause-parentheses : goal.returns-clause-parentheses
+returns-clause-parentheses c = line_few c.args.text.now c.in_ok-tokens.tokens.items c.in_ok-tokens.ensures.tokens c.line.result (subst (λ ts. AnswersAs line_of c.line.result (run_line within more (length c.args.text.now) ts)) c.as_slice.ensures.value c.line.ensures)
