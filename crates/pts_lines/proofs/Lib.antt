@@ -12,9 +12,12 @@ pub mod Languages
 pub mod Many
 pub mod Fits
 pub mod Told
+pub mod Wanted
+pub mod OneKind
 pub mod Views
 pub mod Shallow
 pub mod Rows
 pub mod Lines
 pub mod Unambiguous
+pub mod Determined
 pub mod Utf8

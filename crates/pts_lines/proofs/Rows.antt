@@ -24,6 +24,8 @@ use Rattle.pts_lines.specs.Refusals.{NoneTooMany}
 use Rattle.pts_lines.proofs.Languages.{none_of_nothing, lift_refused, lift_none, lift_first}
 use Rattle.pts_lines.proofs.Fits.{Fits, Texts}
 use Rattle.pts_lines.proofs.Told.{Told, told}
+use Rattle.pts_lines.proofs.Wanted.{OneKind, one_behind}
+use Rattle.pts_lines.proofs.OneKind.{one_kind}
 use Rattle.pts_lines.proofs.Views.{PlainAt, plain_at, LabelAt, label_at, NameAt, name_at, NumberAt, number_at, ColonAt, colon_at, SignAt, sign_colon, sign_assign, is_plain_at, is_label_at, is_name_at, is_number_at, is_colon_at, is_sign_at, plain_said, label_said}
 use Rattle.pts_lines.proofs.Shallow.{kept, Gives, gives_kept, moved_gives, mapped, none_kept, one_kept, many_kept, two_kept}
 
@@ -52,6 +54,9 @@ module _ {R : Type 0} (size : ℕ) (c : Command) (F : Form R) (make : R → Line
   made ts (Err (UnknownName p x)) d = d
   made ts (Err (UnknownSort p x)) d = d
   made ts (Err Memory) d = d
+
+  row_one : (vs : List Spot) → OneKind (Behind c) vs
+  row_one vs = one_behind (Behind c) (Texts F) [] texts_to texts_from vs vs refl (one_kind F vs)
 
   row : (ts : List Spot) → Told (Behind c) size (Gives c) ts (and_then (run_form within more size F ts) (λ a. Ok (make a)))
   row ts = made ts (run_form within more size F ts) (told size F ts)
@@ -193,3 +198,16 @@ behind_told size Budget ts = row size Budget number_form budget number_to number
 behind_told size Equal ts = row size Equal terms_form (λ r. equality r.0 r.1) terms_to terms_from ts
 behind_told size Define ts = row size Define definition_form (λ r. definition r.0 r.1 r.2) definition_to definition_from ts
 behind_told size Instance ts = row size Instance instance_form (λ r. instantiation r.0 r.1 r.2) instance_to instance_from ts
+
+-- And one kind of token must stand there.
+pub behind_one : (c : Command) (vs : List Spot) → OneKind (Behind c) vs
+behind_one (OfNothing c) vs = row_one 0 (OfNothing c) alone_form (λ u. alone c) (alone_to c) (alone_from c) vs
+behind_one (OfPlain c) vs = row_one 0 (OfPlain c) plain_form (of_plain c) (plain_to c) (plain_from c) vs
+behind_one (OfName c) vs = row_one 0 (OfName c) placed_form (λ x. of_name c x.0 x.1) (name_to c) (name_from c) vs
+behind_one (OfTerm c) vs = row_one 0 (OfTerm c) term_form (of_term c) (term_to c) (term_from c) vs
+behind_one (OfType c) vs = row_one 0 (OfType c) typed_form (λ r. of_type c r.0 r.1) (typed_to c) (typed_from c) vs
+behind_one Rename vs = row_one 0 Rename names_form (λ r. renaming r.0 r.1) names_to names_from vs
+behind_one Budget vs = row_one 0 Budget number_form budget number_to number_from vs
+behind_one Equal vs = row_one 0 Equal terms_form (λ r. equality r.0 r.1) terms_to terms_from vs
+behind_one Define vs = row_one 0 Define definition_form (λ r. definition r.0 r.1 r.2) definition_to definition_from vs
+behind_one Instance vs = row_one 0 Instance instance_form (λ r. instantiation r.0 r.1 r.2) instance_to instance_from vs

@@ -1,5 +1,5 @@
 -- What a text says as a line, and its refusals.
-use Rattle.std.specs.Prelude.{◌≡◌, ◌<◌, ℕ, List, [], ◌∷◌, length, take, if◌then◌else◌, Option, Some, None, Result, Ok, Err}
+use Rattle.std.specs.Prelude.{◌≡◌, ◌≢◌, ◌<◌, ◌≤◌, ℕ, List, [], ◌∷◌, length, take, if◌then◌else◌, Option, Some, None, Result, Ok, Err}
 use Rattle.std.specs.Str.{is_utf8}
 use Rattle.pts_names.specs.Name.{Name}
 use Rattle.pts_tokens.specs.declared.fault.TokenFault.{TokenFault}
@@ -65,6 +65,14 @@ RefusesText words text Memory = Unit {0}
 -- No parenthesis of the text is one too many.
 abbrev pub FewOpen : (Name → Option Command) → List ℕ → Type 0
 FewOpen words text = (ts : List Spot) × (tokens_from text 0 ≡ Ok ts) × NoneTooMany (IsLine words) 2000 ts
+
+-- A text is refused for one reason at most, unless memory is wanting.
+abbrev pub LineRefusalsAreDetermined : Type 0
+LineRefusalsAreDetermined = (words : Name → Option Command) (text : List ℕ) (e f : ReadFault) → e ≢ Memory → f ≢ Memory → RefusesText words text e → RefusesText words text f → e ≡ f
+
+-- And for none where its tokens are a line, no parenthesis is one too many, and no term is deeper than 2,000.
+abbrev pub LinesAreNotRefused : Type 0
+LinesAreNotRefused = (words : Name → Option Command) (text : List ℕ) (ts : List Spot) (L : Line) (e : ReadFault) → e ≢ Memory → tokens_from text 0 ≡ Ok ts → LineReads words ts L → NoneTooMany (IsLine words) 2000 ts → deepest (terms_of L) ≤ 2000 → ¬ RefusesText words text e
 
 -- The same by the function that goes through the tokens from the left.
 abbrev pub after_tokens : {A : Type 0} → Result (List Spot) TokenFault → (List Spot → Result A ReadFault) → Result A ReadFault

@@ -17,7 +17,7 @@ mod word;
 
 pub use command::Declaring;
 pub use declaration::{Declaration, declaring_word, read_declaration};
-pub use laws::lines_are_unambiguous;
+pub use laws::{line_refusals_are_determined, lines_are_unambiguous};
 pub use line::Line;
 pub use pts_parser::ReadFault;
 pub use pts_syntax::{Kind, Tree};

@@ -1,4 +1,6 @@
-use crate::{Kind, Line, ReadFault, Tree, lines_are_unambiguous, read_line};
+use crate::{
+    Kind, Line, ReadFault, Tree, line_refusals_are_determined, lines_are_unambiguous, read_line,
+};
 use std::alloc::Global;
 
 fn refused(alloc: Global, text: &str) -> Option<ReadFault> {
@@ -40,6 +42,7 @@ fn is_shown_at(read: &Result<Line, ReadFault>, place: usize) -> bool {
 #[test]
 fn lines_are_read(rt: HostRuntime) {
     lines_are_unambiguous();
+    line_refusals_are_determined();
     let alloc = rt.alloc();
     assert!(rt; matches!(read_line(alloc, " draft\t"), Ok(Line::Draft)));
     assert!(rt; is_definition(&read_line(alloc, "define id:@A:*.A->A := \\A:*. \\x:A. x")));
