@@ -4,3 +4,4 @@ pub mod Utf8
 pub mod Few
 pub mod Reading
 pub mod Known
+mod TwoSorts
