@@ -1,12 +1,13 @@
 -- Marks of the parts of a term, one after the other, are the marks of the term.
-use Rattle.std.proofs.Common.{ℕ, zero, suc, ◌+◌, ◌-◌, ◌≡◌, ◌<◌, ◌≤◌, refl, sym, ◌∙◌, ap, arith, List, [], ◌∷◌, ◌++◌, append_assoc, Bool, true, false, ◌||◌, nat_eq, length, drop, get_or, replicate, reverse}
-use Rattle.std.proofs.lemmas.List.{length-reverse, drop_more, get_or-reverse, get_or_default}
+use Rattle.std.proofs.Common.{ℕ, zero, suc, ◌+◌, ◌-◌, ◌≡◌, ◌≢◌, ◌<◌, ◌≤◌, refl, sym, ◌∙◌, ap, arith, List, [], ◌∷◌, ◌++◌, append_assoc, Bool, true, false, ◌||◌, nat_eq, length, drop, get_or, replicate, reverse}
+use Rattle.std.proofs.lemmas.List.{length-reverse, drop_more, get_or-reverse, get_or_default, get_or-set_same, get_or-set_other, length-set, same_lists}
 use Rattle.std.specs.Prelude.{slice_set, nat_lt, if◌then◌else◌}
 use mathlib.Core.Path.{ap₂}
 use Rattle.pts_terms.specs.Tree.{Named, sort, const, var, app, named_lam, named_pi, named_let}
 use Rattle.pts_written.specs.Choice.{occurs, occurring}
-use Rattle.pts_printer.specs.Marks.{mark_at, marked, picked}
+use Rattle.pts_printer.specs.Marks.{mark_at, marked, first_mark, noted, picked}
 use Rattle.pts_terms.specs.Limits.{IndicesBelow}
+use Rattle.pts_printer.specs.Calls.{without_first}
 use Rattle.pts_printer.proofs.Beyond.{none_beyond}
 
 -- Marks with those added that occur in a term; the first mark is that of the variable of index k.
@@ -45,6 +46,33 @@ ored_three k (m ∷ ms) x d A b =
     (or_assoc (m || occurs k d) (occurs k A) (occurs (suc k) b) ∙ or_assoc m (occurs k d) (occurs k A || occurs (suc k) b))
     (ored_three (suc k) ms x d A b)
 
+-- The same of parts that are gone through from right to left.
+or_swap : (m p q : Bool) → (m || (p || q)) ≡ ((m || q) || p)
+or_swap true p q = refl
+or_swap false true true = refl
+or_swap false true false = refl
+or_swap false false true = refl
+or_swap false false false = refl
+
+ored_app : (k : ℕ) (ms : List Bool) (f a : Named) → ored k ms (app f a) ≡ ored k (ored k ms a) f
+ored_app k [] f a = refl
+ored_app k (m ∷ ms) f a = ap₂ (λ p qs. p ∷ qs) (or_swap m (occurs k f) (occurs k a)) (ored_app (suc k) ms f a)
+
+ored_lam : (k : ℕ) (ms : List Bool) (x : List ℕ) (A b : Named) → ored k ms (named_lam x A b) ≡ ored k (ored (suc k) ms b) A
+ored_lam k [] x A b = refl
+ored_lam k (m ∷ ms) x A b = ap₂ (λ p qs. p ∷ qs) (or_swap m (occurs k A) (occurs (suc k) b)) (ored_lam (suc k) ms x A b)
+
+ored_pi : (k : ℕ) (ms : List Bool) (x : List ℕ) (A b : Named) → ored k ms (named_pi x A b) ≡ ored k (ored (suc k) ms b) A
+ored_pi k [] x A b = refl
+ored_pi k (m ∷ ms) x A b = ap₂ (λ p qs. p ∷ qs) (or_swap m (occurs k A) (occurs (suc k) b)) (ored_pi (suc k) ms x A b)
+
+ored_let : (k : ℕ) (ms : List Bool) (x : List ℕ) (d A b : Named) → ored k ms (named_let x d A b) ≡ ored k (ored k (ored (suc k) ms b) A) d
+ored_let k [] x d A b = refl
+ored_let k (m ∷ ms) x d A b =
+    ap₂ (λ p qs. p ∷ qs)
+    (or_swap m (occurs k d) (occurs k A || occurs (suc k) b) ∙ ap (λ p. p || occurs k d) (or_swap m (occurs k A) (occurs (suc k) b)))
+    (ored_let (suc k) ms x d A b)
+
 same_index : (k : ℕ) → true ≡ nat_eq k k
 same_index k = grind arith
 
@@ -74,6 +102,46 @@ at_place k (m ∷ ms) i (suc p) e l =
 pub ored_at : (k : ℕ) (ms : List Bool) (i : ℕ) → k ≤ i → i - k < length ms → slice_set ms (i - k) true ≡ ored k ms (var i)
 ored_at k ms i h l = at_place k ms i (i - k) (omega arith) l
 
+-- The same of marks that stand in the other order.
+set_back : (ms : List Bool) (i : ℕ) → i < length ms → reverse (slice_set ms (length ms - 1 - i) true) ≡ slice_set (reverse ms) i true
+set_back ms i h = same_lists _ _ lengths places_same
+  where
+    p : ℕ
+    p = length ms - 1 - i
+
+    lengths : length (reverse (slice_set ms p true)) ≡ length (slice_set (reverse ms) i true)
+    lengths = length-reverse (slice_set ms p true) ∙ (length-set ms p true ∙ (sym (length-reverse ms) ∙ sym (length-set (reverse ms) i true)))
+
+    long : length (slice_set ms p true) ≡ length ms
+    long = length-set ms p true
+
+    back : length (reverse ms) ≡ length ms
+    back = length-reverse ms
+
+    here : (k : ℕ) (d : Bool) → k ≡ i → get_or (slice_set ms p true) (length (slice_set ms p true) - 1 - k) d ≡ get_or (slice_set (reverse ms) i true) k d
+    here k d e =
+        let at : length (slice_set ms p true) - 1 - k ≡ p = omega (arith, long, e) in
+        ap (λ n. get_or (slice_set ms p true) n d) at
+        ∙ (get_or-set_same ms p true d (omega (arith, h))
+        ∙ (sym (get_or-set_same (reverse ms) i true d (omega (arith, back, h))) ∙ ap (λ n. get_or (slice_set (reverse ms) i true) n d) (sym e)))
+
+    there : (k : ℕ) (d : Bool) → k < length ms → k ≢ i → get_or (slice_set ms p true) (length (slice_set ms p true) - 1 - k) d ≡ get_or (slice_set (reverse ms) i true) k d
+    there k d l e =
+        let at : length (slice_set ms p true) - 1 - k ≡ length ms - 1 - k = omega (arith, long) in
+        let other : length ms - 1 - k ≢ p = λ q. e (omega (arith, q, h, l)) in
+        ap (λ n. get_or (slice_set ms p true) n d) at
+        ∙ (get_or-set_other ms p (length ms - 1 - k) true d other
+        ∙ (sym (get_or-reverse ms k d l) ∙ sym (get_or-set_other (reverse ms) i k true d e)))
+
+    either : (k : ℕ) (d : Bool) (b : Bool) → k < length ms → nat_eq k i ≡ b → get_or (slice_set ms p true) (length (slice_set ms p true) - 1 - k) d ≡ get_or (slice_set (reverse ms) i true) k d
+    either k d true l e = here k d (grind (arith, e))
+    either k d false l e = there k d l (grind (arith, e))
+
+    places_same : (k : ℕ) (d : Bool) → k < length (reverse (slice_set ms p true)) → get_or (reverse (slice_set ms p true)) k d ≡ get_or (slice_set (reverse ms) i true) k d
+    places_same k d l =
+        let whole = length-reverse (slice_set ms p true) in
+        get_or-reverse (slice_set ms p true) k d (omega (arith, l, whole)) ∙ either k d (nat_eq k i) (omega (arith, l, whole, long)) refl
+
 ored_none : (k : ℕ) (ms : List Bool) (t : Named) → ((j : ℕ) → occurs j t ≡ false) → ms ≡ ored k ms t
 ored_none k [] t h = refl
 ored_none k (m ∷ ms) t h = ap₂ (λ p qs. p ∷ qs) (or_false m ∙ ap (λ p. m || p) (sym (h k))) (ored_none (suc k) ms t h)
@@ -88,6 +156,28 @@ mark_is k i ms = below (nat_lt i k) refl
 
     below : (b : Bool) → nat_lt i k ≡ b → mark_at k i ms ≡ ored k ms (var i)
     below b p = within (nat_lt i k) (nat_lt (i - k) (length ms)) refl refl
+
+pub marked_back : (ms : List Bool) (i : ℕ) → i < length ms → reverse (slice_set ms (length ms - 1 - i) true) ≡ mark_at 0 i (reverse ms)
+marked_back ms i h = set_back ms i h ∙ (at_place 0 (reverse ms) i i (omega arith) (let k = length-reverse ms in omega arith) ∙ sym (mark_is 0 i (reverse ms)))
+
+pub unmarked_back : (ms : List Bool) (i : ℕ) → length ms ≤ i → reverse ms ≡ mark_at 0 i (reverse ms)
+unmarked_back ms i h = ored_behind 0 (reverse ms) i (omega arith) (let k = length-reverse ms in omega arith) ∙ sym (mark_is 0 i (reverse ms))
+
+noted_is : (ms : List Bool) (t : Named) → noted ms t ≡ ored 0 ms t
+noted_is ms (sort s) = ored_none 0 ms (sort s) (λ j. refl)
+noted_is ms (const c) = ored_none 0 ms (const c) (λ j. refl)
+noted_is ms (var i) = mark_is 0 i ms
+noted_is ms (app f a) = ap (λ ns. noted ns f) (noted_is ms a) ∙ (noted_is (ored 0 ms a) f ∙ sym (ored_app 0 ms f a))
+noted_is ms (named_lam x A b) = ap (λ ns. noted (without_first ns) A) (noted_is (false ∷ ms) b) ∙ (noted_is (ored 1 ms b) A ∙ sym (ored_lam 0 ms x A b))
+noted_is ms (named_pi x A b) = ap (λ ns. noted (without_first ns) A) (noted_is (false ∷ ms) b) ∙ (noted_is (ored 1 ms b) A ∙ sym (ored_pi 0 ms x A b))
+noted_is ms (named_let x d A b) =
+    ap (λ ns. noted (noted (without_first ns) A) d) (noted_is (false ∷ ms) b)
+    ∙ (ap (λ ns. noted ns d) (noted_is (ored 1 ms b) A)
+    ∙ (noted_is (ored 0 (ored 1 ms b) A) d ∙ sym (ored_let 0 ms x d A b)))
+
+-- The mark of a binder is whether its variable occurs in its body.
+pub first_noted : (ms : List Bool) (b : Named) → first_mark (noted (false ∷ ms) b) ≡ occurs 0 b
+first_noted ms b = ap first_mark (noted_is (false ∷ ms) b)
 
 -- Marks that are made on the way are those of the variables that occur.
 pub marked_is : (k : ℕ) (ms : List Bool) (t : Named) → marked k ms t ≡ ored k ms t

@@ -3,8 +3,8 @@ use Rattle.std.specs.Prelude.{ℕ, List, [], ◌∷◌, ◌++◌, map}
 use Rattle.std.specs.Borrow.{Bor}
 use Rattle.pts_names.specs.Name.{Name}
 
--- The names around the innermost.
-abbrev pub without_first : List Name → List Name
+-- What is behind the first.
+abbrev pub without_first : {A : Type 0} → List A → List A
 without_first [] = []
 without_first (x ∷ L) = L
 

@@ -16,18 +16,20 @@ use pts_names::{Name, Text};
 use pts_terms::Term;
 use std::alloc::{AllocError, Global};
 
-/// The printed name of a binder with this body. The body is gone through once, and takes no memory, where the name needs no
-/// number; otherwise the forbidden names are listed and looked at for each number that is tried.
-#[tactic(auto, using(crate::proofs::Names::choice_used, crate::proofs::Names::choice_free, crate::proofs::Clashing::clashes_is))]
+/// The printed name of a binder with this body, in which its variable occurs or not. The body is gone through once, and takes
+/// no memory, where the name needs no number; otherwise the forbidden names are listed and looked at for each number that is
+/// tried.
+#[tactic(auto, using(crate::proofs::Names::choice_free, crate::proofs::Clashing::clashes_is))]
 pub(crate) fn chosen(
     alloc: Global,
     name: &Name,
     outer: &Outer,
     body: &Term,
+    used: bool,
 ) -> Result<Text, AllocError>
+    requires { used ≡ choice.occurs 0 (named body.now) }
     ensures { IfOk result (λ text. text ≡ choice.chosen name.now outer.now (named body.now)) }
 {
-    let used = is_used(name, body, 0);
     let own = base(name, used);
     if !clashes(own, outer, body, 1) {
         return Ok(Text::of(String::from_str(alloc, own)?));
@@ -36,17 +38,19 @@ pub(crate) fn chosen(
     taken.choice(alloc, name, used)
 }
 
-/// The printed name of a product with this body: `_` where its variable does not occur.
+/// The printed name of a product with this body: `_` where its variable does not occur in it.
 pub(crate) fn product_name(
     alloc: Global,
     name: &Name,
     outer: &Outer,
     body: &Term,
+    used: bool,
 ) -> Result<Text, AllocError>
+    requires { used ≡ choice.occurs 0 (named body.now) }
     ensures { IfOk result (λ text. text ≡ spelled.product_name name.now outer.now (named body.now)) }
 {
-    if occurs(body, 0) {
-        return chosen(alloc, name, outer, body);
+    if used {
+        return chosen(alloc, name, outer, body, used);
     }
     Ok(Text::of(String::from_str(alloc, "_")?))
 }

@@ -9,7 +9,7 @@ ghost use Rattle.pts_printer.specs.Commas as commas;
 
 use crate::outer::{Outer, copy};
 use crate::page::Page;
-use crate::writing::term_at;
+use crate::writing::write_term;
 use pts_ctx::System;
 use pts_names::Text;
 use pts_terms::Term;
@@ -58,7 +58,7 @@ fn hypothesis_at(
     ensures outer { OnOk result (outer.new ≡ name.now ∷ outer.old) }
 {
     page.begin(separator, name.text(), " : ")?;
-    term_at(alloc, system, page, outer, ty)?;
+    write_term(alloc, system, page, outer, ty)?;
     Ok(outer.enter(copy(alloc, name)?)?)
 }
 

@@ -3,11 +3,13 @@
 //! Stands on the definitions of printed text, on systems and on terms.
 #![tactic(auto)]
 
+mod ahead;
 mod choice;
 mod clash;
 mod form;
 mod goal;
 mod locals;
+mod marks;
 mod occurrence;
 mod outer;
 mod page;

@@ -6,7 +6,7 @@ use crate::goal::{hypotheses_at, turnstile};
 use crate::locals::{chosen_locals, goal_names};
 use crate::outer::Outer;
 use crate::page::Page;
-use crate::writing::term_at;
+use crate::writing::write_term;
 use pts_ctx::System;
 use pts_names::Name;
 use pts_terms::Term;
@@ -17,8 +17,8 @@ use std::alloc::{AllocError, Global};
 /// The printed names of the locals are chosen first, and then those of the binders. A sort that the system has not got,
 /// and an index of no local, are printed as nothing. The only error is want of memory.
 ///
-/// The cost is that of the text, and for each binder that of going through its body, and of the names around it where its
-/// name needs a number. Calls nest as deep as the term.
+/// The cost is that of the text, of going through the term once, and for each binder that is written with its name that of
+/// going through its body, and of the names around it where its name needs a number. Calls nest as deep as the term.
 #[tactic(auto, unfolding(pts_written::specs::Locals::printed))]
 pub fn print_term(
     alloc: Global,
@@ -30,7 +30,7 @@ pub fn print_term(
 {
     let mut outer = chosen_locals(alloc, locals, term)?;
     let mut page = Page::new(alloc);
-    term_at(alloc, system, &mut page, &mut outer, term)?;
+    write_term(alloc, system, &mut page, &mut outer, term)?;
     Ok(page.into_text())
 }
 
@@ -55,6 +55,6 @@ pub fn print_goal(
     let mut page = Page::new(alloc);
     hypotheses_at(alloc, system, &mut page, &mut outer, &chosen, types)?;
     page.write(turnstile(types))?;
-    term_at(alloc, system, &mut page, &mut outer, statement)?;
+    write_term(alloc, system, &mut page, &mut outer, statement)?;
     Ok(page.into_text())
 }

@@ -134,3 +134,51 @@ fn a_term_of_the_greatest_depth_is_printed(rt: HostRuntime) -> Result<(), Fail> 
     assert!(rt; text.len() == 999 * 6 + 999 * 7 + 6);
     Ok(())
 }
+
+// This many abstractions by a name before the body.
+fn abstracted(alloc: Global, name: &Name, count: usize, body: Term) -> Result<Term, AllocError> {
+    let mut term = body;
+    for _ in 0..count {
+        term = lam(alloc, name, Term::Sort(Sort(0)), term)?;
+    }
+    Ok(term)
+}
+
+fn push_times(text: &mut String, piece: &str, count: usize) -> Result<(), AllocError> {
+    for _ in 0..count {
+        text.push_str(piece)?;
+    }
+    Ok(())
+}
+
+#[test]
+fn a_name_given_far_outside_is_not_hidden(rt: HostRuntime) -> Result<(), Fail> {
+    let alloc = rt.alloc();
+    let system = star(alloc)?;
+    let inner = abstracted(alloc, &Name::read(alloc, "y")?, 300, Term::Var(299))?;
+    let term = abstracted(alloc, &Name::read(alloc, "x")?, 300, inner)?;
+    let mut text = String::new(alloc);
+    push_times(&mut text, "\\x:*. ", 300)?;
+    text.push_str("\\y:*. ")?;
+    push_times(&mut text, "\\y1:*. ", 299)?;
+    text.push_str("y")?;
+    assert!(rt; prints(alloc, &system, &[], &term, text.as_str()));
+    Ok(())
+}
+
+#[test]
+fn a_product_around_arrows_keeps_its_name(rt: HostRuntime) -> Result<(), Fail> {
+    let alloc = rt.alloc();
+    let system = star(alloc)?;
+    let name = Name::read(alloc, "x")?;
+    let mut term = Term::Var(500);
+    for _ in 0..501 {
+        term = pi(alloc, &name, Term::Sort(Sort(0)), term)?;
+    }
+    let mut text = String::new(alloc);
+    text.push_str("@x:*. ")?;
+    push_times(&mut text, "* -> ", 500)?;
+    text.push_str("x")?;
+    assert!(rt; prints(alloc, &system, &[], &term, text.as_str()));
+    Ok(())
+}

@@ -6,7 +6,9 @@ ghost use Rattle.pts_syntax.specs.Grammar.{underscore};
 ghost use Rattle.pts_terms.specs.Seen.{named};
 ghost use Rattle.pts_written.specs.Spelled.{spelled};
 ghost use Rattle.pts_written.specs.Text.{in_parens, is_binding, text_of};
+ghost use Rattle.pts_printer.specs.Ahead.{behind, IsTold};
 
+use crate::ahead::Ahead;
 use crate::choice::{chosen, product_name};
 use crate::form::{is_binding, is_compound};
 use crate::outer::Outer;
@@ -16,10 +18,8 @@ use pts_names::Text;
 use pts_terms::{Boxed, Sort, Term};
 use std::alloc::{AllocError, Global};
 
-/// Writes a term among these variables, which stand again behind it.
-#[cycle(term_at)]
-#[tactic(auto, using(crate::proofs::Joined::let_joined))]
-pub(crate) fn term_at(
+/// Writes a term among these variables, which stand again behind it. Its binders are gone through once before.
+pub(crate) fn write_term(
     alloc: Global,
     system: &System,
     page: &mut Page,
@@ -29,34 +29,54 @@ pub(crate) fn term_at(
     ensures text { OnOk result (page.new ≡ page.old ++ text_of (spelled system.now.sorts outer.old (named term.now))) }
     ensures outer { OnOk result (outer.new ≡ outer.old) }
 {
+    let mut ahead = Ahead::of(alloc, term)?;
+    term_at(alloc, system, page, outer, &mut ahead, term)
+}
+
+// A term with its binders ahead, which are then behind.
+#[cycle(term_at)]
+#[tactic(auto, using(crate::proofs::Joined::let_joined))]
+fn term_at(
+    alloc: Global,
+    system: &System,
+    page: &mut Page,
+    outer: &mut Outer,
+    ahead: &mut Ahead,
+    term: &Term,
+) -> Result<(), AllocError>
+    requires told { IsTold (named term.now) ahead.old }
+    ensures text { OnOk result (page.new ≡ page.old ++ text_of (spelled system.now.sorts outer.old (named term.now))) }
+    ensures outer { OnOk result (outer.new ≡ outer.old) }
+    ensures ahead { OnOk result (ahead.new ≡ behind (named term.now) ahead.old) }
+{
     match term {
         Term::Sort(sort) => page.write(spelling(system, *sort)),
         Term::Const(name) => page.write(name.text()),
         Term::Var(index) => page.write(outer.name(*index as usize)),
         Term::App(f, a) => {
-            part_at(alloc, system, page, outer, f, is_binding(f.get()))?;
+            part_at(alloc, system, page, outer, ahead, f, is_binding(f.get()))?;
             page.write(" ")?;
-            part_at(alloc, system, page, outer, a, is_compound(a.get()))
+            part_at(alloc, system, page, outer, ahead, a, is_compound(a.get()))
         }
         Term::Lam(x, t, b) => {
-            let name = chosen(alloc, x, outer, b.get())?;
-            domain_at(alloc, system, page, outer, "\\", &name, t)?;
-            body_at(alloc, system, page, outer, name, b)
+            let name = chosen(alloc, x, outer, b.get(), ahead.next())?;
+            domain_at(alloc, system, page, outer, ahead, "\\", &name, t)?;
+            body_at(alloc, system, page, outer, ahead, name, b)
         }
         Term::Pi(x, t, b) => {
-            let name = product_name(alloc, x, outer, b.get())?;
+            let name = product_name(alloc, x, outer, b.get(), ahead.next())?;
             if is_arrow(&name) {
-                left_at(alloc, system, page, outer, t)?;
-                return body_at(alloc, system, page, outer, name, b);
+                left_at(alloc, system, page, outer, ahead, t)?;
+                return body_at(alloc, system, page, outer, ahead, name, b);
             }
-            domain_at(alloc, system, page, outer, "@", &name, t)?;
-            body_at(alloc, system, page, outer, name, b)
+            domain_at(alloc, system, page, outer, ahead, "@", &name, t)?;
+            body_at(alloc, system, page, outer, ahead, name, b)
         }
         Term::Let(x, d, t, b) => {
-            let name = chosen(alloc, x, outer, b.get())?;
-            definition_at(alloc, system, page, outer, &name, d)?;
-            type_at(alloc, system, page, outer, t)?;
-            body_at(alloc, system, page, outer, name, b)
+            let name = chosen(alloc, x, outer, b.get(), ahead.next())?;
+            definition_at(alloc, system, page, outer, ahead, &name, d)?;
+            type_at(alloc, system, page, outer, ahead, t)?;
+            body_at(alloc, system, page, outer, ahead, name, b)
         }
     }
 }
@@ -68,17 +88,20 @@ fn part_at(
     system: &System,
     page: &mut Page,
     outer: &mut Outer,
+    ahead: &mut Ahead,
     part: &Boxed<Term>,
     wrapped: bool,
 ) -> Result<(), AllocError>
+    requires told { IsTold (named part.now) ahead.old }
     ensures text { OnOk result (page.new ≡ page.old ++ in_parens wrapped (text_of (spelled system.now.sorts outer.old (named part.now)))) }
     ensures outer { OnOk result (outer.new ≡ outer.old) }
+    ensures ahead { OnOk result (ahead.new ≡ behind (named part.now) ahead.old) }
 {
     if !wrapped {
-        return term_at(alloc, system, page, outer, part.get());
+        return term_at(alloc, system, page, outer, ahead, part.get());
     }
     page.write("(")?;
-    term_at(alloc, system, page, outer, part.get())?;
+    term_at(alloc, system, page, outer, ahead, part.get())?;
     page.write(")")
 }
 
@@ -89,15 +112,18 @@ fn domain_at(
     system: &System,
     page: &mut Page,
     outer: &mut Outer,
+    ahead: &mut Ahead,
     sign: &str,
     name: &Text,
     domain: &Boxed<Term>,
 ) -> Result<(), AllocError>
+    requires told { IsTold (named domain.now) ahead.old }
     ensures text { OnOk result (page.new ≡ page.old ++ (sign.now ++ (name.now ++ (codes ":" ++ (text_of (spelled system.now.sorts outer.old (named domain.now)) ++ codes ". "))))) }
     ensures outer { OnOk result (outer.new ≡ outer.old) }
+    ensures ahead { OnOk result (ahead.new ≡ behind (named domain.now) ahead.old) }
 {
     page.begin(sign, name.text(), ":")?;
-    term_at(alloc, system, page, outer, domain.get())?;
+    term_at(alloc, system, page, outer, ahead, domain.get())?;
     page.write(". ")
 }
 
@@ -108,12 +134,23 @@ fn left_at(
     system: &System,
     page: &mut Page,
     outer: &mut Outer,
+    ahead: &mut Ahead,
     domain: &Boxed<Term>,
 ) -> Result<(), AllocError>
+    requires told { IsTold (named domain.now) ahead.old }
     ensures text { OnOk result (page.new ≡ page.old ++ (in_parens (is_binding (spelled system.now.sorts outer.old (named domain.now))) (text_of (spelled system.now.sorts outer.old (named domain.now))) ++ codes " -> ")) }
     ensures outer { OnOk result (outer.new ≡ outer.old) }
+    ensures ahead { OnOk result (ahead.new ≡ behind (named domain.now) ahead.old) }
 {
-    part_at(alloc, system, page, outer, domain, is_binding(domain.get()))?;
+    part_at(
+        alloc,
+        system,
+        page,
+        outer,
+        ahead,
+        domain,
+        is_binding(domain.get()),
+    )?;
     page.write(" -> ")
 }
 
@@ -124,14 +161,17 @@ fn definition_at(
     system: &System,
     page: &mut Page,
     outer: &mut Outer,
+    ahead: &mut Ahead,
     name: &Text,
     definition: &Boxed<Term>,
 ) -> Result<(), AllocError>
+    requires told { IsTold (named definition.now) ahead.old }
     ensures text { OnOk result (page.new ≡ page.old ++ (codes "let " ++ (name.now ++ (codes " := " ++ text_of (spelled system.now.sorts outer.old (named definition.now)))))) }
     ensures outer { OnOk result (outer.new ≡ outer.old) }
+    ensures ahead { OnOk result (ahead.new ≡ behind (named definition.now) ahead.old) }
 {
     page.begin("let ", name.text(), " := ")?;
-    term_at(alloc, system, page, outer, definition.get())
+    term_at(alloc, system, page, outer, ahead, definition.get())
 }
 
 // The type of a local definition, as ` : A in `.
@@ -141,13 +181,16 @@ fn type_at(
     system: &System,
     page: &mut Page,
     outer: &mut Outer,
+    ahead: &mut Ahead,
     ty: &Boxed<Term>,
 ) -> Result<(), AllocError>
+    requires told { IsTold (named ty.now) ahead.old }
     ensures text { OnOk result (page.new ≡ page.old ++ (codes " : " ++ (text_of (spelled system.now.sorts outer.old (named ty.now)) ++ codes " in "))) }
     ensures outer { OnOk result (outer.new ≡ outer.old) }
+    ensures ahead { OnOk result (ahead.new ≡ behind (named ty.now) ahead.old) }
 {
     page.write(" : ")?;
-    term_at(alloc, system, page, outer, ty.get())?;
+    term_at(alloc, system, page, outer, ahead, ty.get())?;
     page.write(" in ")
 }
 
@@ -158,14 +201,17 @@ fn body_at(
     system: &System,
     page: &mut Page,
     outer: &mut Outer,
+    ahead: &mut Ahead,
     name: Text,
     body: &Boxed<Term>,
 ) -> Result<(), AllocError>
+    requires told { IsTold (named body.now) ahead.old }
     ensures text { OnOk result (page.new ≡ page.old ++ text_of (spelled system.now.sorts (name ∷ outer.old) (named body.now))) }
     ensures outer { OnOk result (outer.new ≡ outer.old) }
+    ensures ahead { OnOk result (ahead.new ≡ behind (named body.now) ahead.old) }
 {
     outer.enter(name)?;
-    term_at(alloc, system, page, outer, body.get())?;
+    term_at(alloc, system, page, outer, ahead, body.get())?;
     outer.leave();
     Ok(())
 }

@@ -1,0 +1,30 @@
+-- Whether the variable of each binder of a term occurs in its body: a list, in the order in which the binders are written.
+use Rattle.std.specs.Prelude.{List, [], ◌∷◌, Bool, false, ◌≡◌}
+use Rattle.pts_terms.specs.Tree.{Named, sort, const, var, app, named_lam, named_pi, named_let}
+use Rattle.pts_written.specs.Choice.{occurs}
+use Rattle.pts_printer.specs.Calls.{without_first}
+
+-- What a list says of the next binder.
+abbrev pub first_use : List Bool → Bool
+first_use [] = false
+first_use (u ∷ us) = u
+
+-- What is left of a list behind a term.
+abbrev pub behind : Named → List Bool → List Bool
+behind (sort s) us = us
+behind (const c) us = us
+behind (var i) us = us
+behind (app f a) us = behind a (behind f us)
+behind (named_lam x A b) us = behind b (behind A (without_first us))
+behind (named_pi x A b) us = behind b (behind A (without_first us))
+behind (named_let x d A b) us = behind b (behind A (behind d (without_first us)))
+
+-- The list begins with that of the term.
+abbrev pub IsTold : Named → List Bool → Type 0
+IsTold (sort s) us = Unit {0}
+IsTold (const c) us = Unit {0}
+IsTold (var i) us = Unit {0}
+IsTold (app f a) us = IsTold f us × IsTold a (behind f us)
+IsTold (named_lam x A b) us = (first_use us ≡ occurs 0 b) × IsTold A (without_first us) × IsTold b (behind A (without_first us))
+IsTold (named_pi x A b) us = (first_use us ≡ occurs 0 b) × IsTold A (without_first us) × IsTold b (behind A (without_first us))
+IsTold (named_let x d A b) us = (first_use us ≡ occurs 0 b) × IsTold d (without_first us) × IsTold A (behind d (without_first us)) × IsTold b (behind A (behind d (without_first us)))
