@@ -151,34 +151,59 @@ fn push_times(text: &mut String, piece: &str, count: usize) -> Result<(), AllocE
     Ok(())
 }
 
-#[test]
-fn a_name_given_far_outside_is_not_hidden(rt: HostRuntime) -> Result<(), Fail> {
-    let alloc = rt.alloc();
-    let system = star(alloc)?;
-    let inner = abstracted(alloc, &Name::read(alloc, "y")?, 300, Term::Var(299))?;
-    let term = abstracted(alloc, &Name::read(alloc, "x")?, 300, inner)?;
+// 300 abstractions by `x`, and then 300 by `y` around the first variable of these.
+fn far_outside(alloc: Global) -> Result<Term, Fail> {
+    let y = Name::read(alloc, "y")?;
+    let inner = abstracted(alloc, &y, 300, Term::Var(299))?;
+    let x = Name::read(alloc, "x")?;
+    Ok(abstracted(alloc, &x, 300, inner)?)
+}
+
+// Its text.
+fn far_text(alloc: Global) -> Result<String, AllocError> {
     let mut text = String::new(alloc);
     push_times(&mut text, "\\x:*. ", 300)?;
     text.push_str("\\y:*. ")?;
     push_times(&mut text, "\\y1:*. ", 299)?;
     text.push_str("y")?;
+    Ok(text)
+}
+
+#[test]
+fn a_name_given_far_outside_is_not_hidden(rt: HostRuntime) -> Result<(), Fail> {
+    let alloc = rt.alloc();
+    let system = star(alloc)?;
+    let text = far_text(alloc)?;
+    let term = far_outside(alloc)?;
     assert!(rt; prints(alloc, &system, &[], &term, text.as_str()));
     Ok(())
+}
+
+// A product around 500 others that are arrows, and around its variable.
+fn far_arrows(alloc: Global) -> Result<Term, Fail> {
+    let name = Name::read(alloc, "x")?;
+    let mut term = Term::Var(500);
+    for _ in 0..501 {
+        term = pi(alloc, &name, Term::Sort(Sort(0)), term)?;
+    }
+    Ok(term)
+}
+
+// Its text.
+fn arrows_text(alloc: Global) -> Result<String, AllocError> {
+    let mut text = String::new(alloc);
+    text.push_str("@x:*. ")?;
+    push_times(&mut text, "* -> ", 500)?;
+    text.push_str("x")?;
+    Ok(text)
 }
 
 #[test]
 fn a_product_around_arrows_keeps_its_name(rt: HostRuntime) -> Result<(), Fail> {
     let alloc = rt.alloc();
     let system = star(alloc)?;
-    let name = Name::read(alloc, "x")?;
-    let mut term = Term::Var(500);
-    for _ in 0..501 {
-        term = pi(alloc, &name, Term::Sort(Sort(0)), term)?;
-    }
-    let mut text = String::new(alloc);
-    text.push_str("@x:*. ")?;
-    push_times(&mut text, "* -> ", 500)?;
-    text.push_str("x")?;
+    let text = arrows_text(alloc)?;
+    let term = far_arrows(alloc)?;
     assert!(rt; prints(alloc, &system, &[], &term, text.as_str()));
     Ok(())
 }
