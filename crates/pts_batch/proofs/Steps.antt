@@ -1,8 +1,6 @@
 -- One line after another.
-use Rattle.std.proofs.Common.{◌≡◌, ◌≤◌, ◌+◌, ℕ, suc, List, [], ◌∷◌, ◌++◌, map, drop, length, sym, ap, ◌∙◌, subst, arith}
+use Rattle.std.proofs.Common.{◌≡◌, ◌≤◌, ◌+◌, ℕ, suc, List, [], ◌∷◌, ◌++◌, map, length, refl, sym, ap, ◌∙◌, subst, arith}
 use Rattle.std.proofs.lemmas.List.{map-append}
-use Rattle.std.proofs.lemmas.Option.{slice_get_past}
-use Rattle.pts_ctx.proofs.Parts.{drop-past}
 use Rattle.pts_names.specs.Name.{Name}
 use Rattle.pts_ctx.specs.System.{Specification}
 use Rattle.pts_record.specs.declared.declaration.Declaration.{Declaration}
@@ -40,8 +38,9 @@ module _ (S : Specification) (M : Name) (all : ℕ → Loaded → ℕ → Type 0
   pub end_kept : ls ≡ [] → all c (entered G) b
   end_kept p = f (entered G) b (subst (λ zs. Loads S M G (map numbered zs) b (entered G) b) (sym p) no_statement)
 
-pub none_left : (ls : List (ℕ × ModuleLine)) (i : ℕ) → length ls ≤ i → drop i ls ≡ []
-none_left ls i h = drop-past ls i (slice_get_past ls i h)
+pub none_left : (ls : List (ℕ × ModuleLine)) (n : ℕ) → n ≡ length ls → n ≡ 0 → ls ≡ []
+none_left [] n e h = refl
+none_left (x ∷ ls) n e h = absurd (omega (arith, e, h))
 
 pub entries_kept : (ds es : List Declaration) (d : Declaration) (G H : Globals) → G ≡ entries_of ds → H ≡ G ++ declared d ∷ [] → es ≡ ds ++ d ∷ [] → H ≡ entries_of es
 entries_kept ds es d G H g h e = h ∙ ap (λ F. F ++ declared d ∷ []) g ∙ sym (map-append declared ds (d ∷ [])) ∙ ap entries_of (sym e)

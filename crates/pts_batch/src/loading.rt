@@ -75,7 +75,7 @@ pub fn load(
     let mut rest = lines.into_iter();
     while let Some(line) = rest.next() {
         match loading.add(alloc, system, label, &line.1, meter) {
-            Ok(()) => {}
+            Ok(()) => drop(line),
             Err(fault) => return Err(refused_at(line.0, fault)),
         }
     }

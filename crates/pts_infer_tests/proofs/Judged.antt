@@ -10,10 +10,10 @@ use Rattle.pts_judge.proofs.Nodes.{still_typed}
 
 module _ (a b : Tables) (c n : ℕ) (s : Scope Name) (t : Named) (W : Named → Type 0) (h : (T : Named) × W T × IsNode b n (judgement c s t T)) where
   pub judged_stands : n < length b.nodes
-  judged_stands = h.2.1.0
+  judged_stands = h.2.0
 
   pub judged_so : is_judgement (named_told b n) ≡ true
-  judged_so = ap is_judgement h.2.1.1
+  judged_so = ap is_judgement h.2.1
 
   pub judged_typed : Keeps a b → c < length a.nodes → IsTyped a c → IsTyped b (place_of (named_told b n))
-  judged_typed g l q = subst (IsTyped b) (sym (ap place_of h.2.1.1)) (still_typed a b c g l q)
+  judged_typed g l q = subst (IsTyped b) (sym (ap place_of h.2.1)) (still_typed a b c g l q)

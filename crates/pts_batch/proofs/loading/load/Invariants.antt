@@ -13,6 +13,7 @@ invariant-loop-line l = record {
   labels : l.loading.context.labels ≡ (l.label, 0) ∷ [];
   entries : l.loading.context.entries ≡ entries_of l.loading.declarations.items;
   evidence : MayFollow l.system [] l.loading.declarations.items;
+  long : into_iter_len l.rest ≡ length (into_iter_items l.rest);
   room : length (into_iter_items l.rest) ≤ l.loading.context.spare_entries;
   later : Later l.fn.meter l.meter;
 }
