@@ -1,9 +1,15 @@
-use crate::simple::simple;
 use pts_ctx::{Context, System};
 use pts_infer::{InferFault, Typed, infer_term};
 use pts_reduce::Meter;
+use pts_spec::read_system;
 use pts_terms::{Sort, Term};
 use std::alloc::Global;
+
+// The simply typed calculus.
+fn simple(alloc: Global) -> Option<System> {
+    let text = "sorts = [\"*\", \"#\"]\naxioms = [[\"*\", \"#\"]]\nrules = [[\"*\", \"*\"]]\n";
+    read_system(alloc, text.as_bytes()).ok()
+}
 
 fn typed(
     alloc: Global,

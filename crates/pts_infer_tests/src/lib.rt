@@ -4,7 +4,3 @@
 
 #[cfg(test)]
 mod inference;
-#[cfg(test)]
-mod judgements;
-#[cfg(test)]
-mod simple;
