@@ -84,8 +84,8 @@ module _ (S : Specification) (M : Name) (bytes : List ℕ) (b : ℕ) (a : Answer
 new_left : (m : Units) (b : ℕ) → m ≡ record { limit = b; spent = 0 } → left m ≡ b
 new_left m b e = let p : m.limit ≡ b = ap (λ x. x.limit) e in let q : m.spent ≡ 0 = ap (λ x. x.spent) e in omega (arith, p, q)
 
-pub from_new : (m : Units) (b : ℕ) → m ≡ record { limit = b; spent = 0 } → (P : ℕ → Type 0) → P (left m) → P b
-from_new m b e P h = subst P (new_left m b e) h
+pub from_new : {A : Type 0} (m : Units) (b : ℕ) (x y : List A) → m ≡ record { limit = b; spent = 0 } → x ≡ y → (P : List A → ℕ → Type 0) → P x (left m) → P y b
+from_new m b x y e q P h = subst (P y) (new_left m b e) (subst (λ z. P z (left m)) q h)
 
 pub spent_and_left : (m n : Units) (b s u : ℕ) → m ≡ record { limit = b; spent = 0 } → Later m n → s ≡ n.spent → s ≤ n.limit → u ≡ s → u + left n ≡ b
 spent_and_left m n b s u e l q w z = let p : m.limit ≡ b = ap (λ x. x.limit) e in let h : n.limit ≡ m.limit = l.0 in omega (arith, p, h, q, w, z)

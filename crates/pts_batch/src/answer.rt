@@ -17,7 +17,7 @@ use crate::loading::{LoadFault, Loading, load};
 use crate::world::{Batch, World};
 use pts_ctx::{Context, ROOM, System};
 use pts_declare::{DeclareFault, fault_text, read_text};
-use pts_module::{Module, ModuleFault, Why, read_module};
+use pts_module::{Module, ModuleFault, ModuleLine, Why, read_module};
 use pts_names::{List, Name, Text};
 use pts_rules::Meter;
 use std::alloc::{AllocError, Global};
@@ -137,10 +137,19 @@ fn batch_lines(
     ensures evidence { IfOk result (λ r. Evident world.now.system r) }
 {
     let mut meter = Meter::new(budget);
-    match load(alloc, &world.system, name, file.declarations, &mut meter) {
+    let lines = declarations_of(file);
+    match load(alloc, &world.system, name, lines, &mut meter) {
         Ok(loading) => finish(alloc, &world.system, name, loading, meter.spent()),
         Err(fault) => stopped(alloc, &world.system, name, &fault, meter.spent()),
     }
+}
+
+// The declarations alone.
+fn declarations_of(file: Module) -> Vec<(usize, ModuleLine)>
+    ensures { result ≡ file.declarations }
+{
+    let Module { declarations, .. } = file;
+    declarations
 }
 
 // All statements have passed.
