@@ -8,10 +8,10 @@ use Rattle.pts_ctx.specs.Front.{bare_front}
 use Rattle.pts_rules.specs.Derives.{Legal, legal_empty}
 use Rattle.pts_rules.specs.Meter.{Units, left}
 use Rattle.pts_reduce.specs.Given.{Later}
-use Rattle.pts_costs.specs.Costs.{Globals}
-use Rattle.pts_module.specs.declared.file.Module.{Module}
-use Rattle.pts_module.specs.declared.fault.ModuleFault.{ModuleFault}
-use Rattle.pts_module.specs.File.{File, file_of, module_of, Refuses}
+use Rattle.pts_reduce_cost.specs.Costs.{Globals}
+use Rattle.pts_module_file.specs.declared.file.Module.{Module}
+use Rattle.pts_module_file.specs.declared.fault.ModuleFault.{ModuleFault}
+use Rattle.pts_module_file.specs.File.{File, file_of, module_of, Refuses}
 use Rattle.pts_declare.specs.declared.fault.DeclareFault.{DeclareFault}
 use Rattle.pts_declare.specs.declared.fault.DeclareFault.TheVariants.{Read, Taken, Flawed, Spent, Deep, Memory}
 use Rattle.pts_declare.specs.Answered.{fault_text}

@@ -10,9 +10,9 @@ use Rattle.pts_rules.proofs.Sound.{conclusion_legal}
 use Rattle.pts_rules.proofs.HeadBare.{find_bare}
 use Rattle.pts_record.specs.declared.declaration.Declaration.{Declaration}
 use Rattle.pts_check.specs.Entered.{declared}
-use Rattle.pts_costs.specs.Costs.{Globals}
-use Rattle.pts_costs.specs.Laws.{WithinBudget}
-use Rattle.pts_typing.specs.Typing.{comes}
+use Rattle.pts_reduce_cost.specs.Costs.{Globals}
+use Rattle.pts_reduce_cost.specs.Laws.{WithinBudget}
+use Rattle.pts_infer_cost.specs.Typing.{comes}
 use Rattle.pts_declare.specs.declared.fault.DeclareFault.{DeclareFault}
 use Rattle.pts_declare.specs.declared.fault.DeclareFault.TheVariants.{Read, Taken, Flawed, Spent, Deep, Memory}
 use Rattle.pts_declare.specs.Statements.{Statement}

@@ -3,10 +3,10 @@ use Rattle.std.proofs.Common.{◌≡◌, ◌<◌, ℕ, List, [], ◌∷◌, ◌+
 use Rattle.pts_names.specs.Name.{Name}
 use Rattle.pts_ctx.specs.System.{Specification}
 use Rattle.pts_ctx.specs.Front.{Global}
-use Rattle.pts_costs.specs.Costs.{Globals}
-use Rattle.pts_costs.specs.Laws.{WithinBudget, AboveBudget}
-use Rattle.pts_typing.specs.Typing.{Stop, comes, stops}
-use Rattle.pts_module.specs.declared.fault.Why.{Why}
+use Rattle.pts_reduce_cost.specs.Costs.{Globals}
+use Rattle.pts_reduce_cost.specs.Laws.{WithinBudget, AboveBudget}
+use Rattle.pts_infer_cost.specs.Typing.{Stop, comes, stops}
+use Rattle.pts_module_file.specs.declared.fault.Why.{Why}
 use Rattle.pts_declare.specs.Statements.{Statement}
 use Rattle.pts_declare.specs.Declaring.{Reason, Declaring, Declares}
 use Rattle.pts_declare.proofs.Once.{declares_once}

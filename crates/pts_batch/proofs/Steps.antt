@@ -5,10 +5,10 @@ use Rattle.pts_names.specs.Name.{Name}
 use Rattle.pts_ctx.specs.System.{Specification}
 use Rattle.pts_record.specs.declared.declaration.Declaration.{Declaration}
 use Rattle.pts_check.specs.Entered.{declared}
-use Rattle.pts_costs.specs.Costs.{Globals}
-use Rattle.pts_costs.specs.Laws.{WithinBudget}
-use Rattle.pts_typing.specs.Typing.{comes}
-use Rattle.pts_module.specs.declared.file.ModuleLine.{ModuleLine}
+use Rattle.pts_reduce_cost.specs.Costs.{Globals}
+use Rattle.pts_reduce_cost.specs.Laws.{WithinBudget}
+use Rattle.pts_infer_cost.specs.Typing.{comes}
+use Rattle.pts_module_file.specs.declared.file.ModuleLine.{ModuleLine}
 use Rattle.pts_declare.specs.declared.fault.DeclareFault.{DeclareFault}
 use Rattle.pts_declare.specs.declared.fault.DeclareFault.TheVariants.{Read, Taken, Flawed, Spent, Deep, Memory}
 use Rattle.pts_declare.specs.Declaring.{Declares}

@@ -6,11 +6,11 @@ use Rattle.pts_ctx.specs.System.{Specification}
 use Rattle.pts_ctx.specs.Front.{Global}
 use Rattle.pts_lines.specs.declared.command.Declaring.{Declaring}
 use Rattle.pts_lines.specs.Lines.{Line, of_type, definition}
-use Rattle.pts_module.specs.declared.fault.Why.{Why}
-use Rattle.pts_module.specs.declared.fault.Why.TheVariants.{Form, Read}
-use Rattle.pts_module.specs.File.{File, module_of}
-use Rattle.pts_written.specs.Locals.{printed}
-use Rattle.pts_costs.specs.Costs.{Globals}
+use Rattle.pts_module_file.specs.declared.fault.Why.{Why}
+use Rattle.pts_module_file.specs.declared.fault.Why.TheVariants.{Form, Read}
+use Rattle.pts_module_file.specs.File.{File, module_of}
+use Rattle.pts_printed.specs.Locals.{printed}
+use Rattle.pts_reduce_cost.specs.Costs.{Globals}
 use Rattle.pts_declare.specs.Statements.{Statement, assumes, defines}
 use Rattle.pts_declare.specs.Words.{read_text, stop_text, spent_text}
 use Rattle.pts_batch.specs.Loading.{Loaded, entered, stopped, spent, Loads}

@@ -1,12 +1,12 @@
 -- What the calls of this crate answer.
 use Rattle.std.specs.Prelude.{◌≡◌, ℕ, List}
 use Rattle.pts_infer.specs.Answered.{flaw_seen}
-use Rattle.pts_typing.specs.Typing.{by_flaw, by_limits}
+use Rattle.pts_infer_cost.specs.Typing.{by_flaw, by_limits}
 use Rattle.pts_declare.specs.Declaring.{unread, taken, flawed}
 use Rattle.pts_declare.specs.declared.fault.DeclareFault.{DeclareFault}
 use Rattle.pts_declare.specs.declared.fault.DeclareFault.TheVariants.{Read, Taken, Flawed, Spent, Deep, Memory}
 use Rattle.pts_names.specs.Name.{Name}
-use Rattle.pts_module.specs.declared.fault.ModuleFault.{ModuleFault}
+use Rattle.pts_module_file.specs.declared.fault.ModuleFault.{ModuleFault}
 use Rattle.pts_declare.specs.Answered.{fault_text}
 use Rattle.pts_batch.specs.Batches.{Answer, refusal, bad_line, at_line}
 use Rattle.pts_batch.specs.Loading.{Loaded, stopped, spent}

@@ -1,11 +1,11 @@
 -- Declarations that entered one after another, and what the program's values stand for.
 use Rattle.std.specs.Prelude.{◌≡◌, ℕ, List, [], ◌∷◌, ◌++◌, map, true, option_map}
 use Rattle.pts_ctx.specs.System.{Specification}
-use Rattle.pts_syntax.specs.Seen.{syntax_of}
+use Rattle.pts_grammar.specs.Seen.{syntax_of}
 use Rattle.pts_record.specs.declared.declaration.Declaration.{Declaration}
 use Rattle.pts_check.specs.Entered.{declared}
-use Rattle.pts_costs.specs.Costs.{Globals}
-use Rattle.pts_module.specs.declared.file.ModuleLine.{ModuleLine}
+use Rattle.pts_reduce_cost.specs.Costs.{Globals}
+use Rattle.pts_module_file.specs.declared.file.ModuleLine.{ModuleLine}
 use Rattle.pts_declare.specs.Statements.{Statement, assumes, defines, name_of, is_declarable}
 use Rattle.pts_declare.specs.Answered.{MayEnter}
 

@@ -3,9 +3,9 @@ use Rattle.std.specs.Prelude.{ℕ, List, [], ◌∷◌, ◌++◌}
 use Rattle.pts_names.specs.Name.{Name}
 use Rattle.pts_ctx.specs.System.{Specification}
 use Rattle.pts_ctx.specs.Front.{Global}
-use Rattle.pts_costs.specs.Costs.{Globals}
-use Rattle.pts_costs.specs.Laws.{WithinBudget, AboveBudget}
-use Rattle.pts_typing.specs.Typing.{Stop, comes, stops}
+use Rattle.pts_reduce_cost.specs.Costs.{Globals}
+use Rattle.pts_reduce_cost.specs.Laws.{WithinBudget, AboveBudget}
+use Rattle.pts_infer_cost.specs.Typing.{Stop, comes, stops}
 use Rattle.pts_declare.specs.Statements.{Statement}
 use Rattle.pts_declare.specs.Declaring.{Reason, Declares}
 

@@ -3,9 +3,9 @@ use Rattle.std.proofs.Common.{ℕ, [], refl, ap, Some, None}
 use Rattle.pts_names.specs.Name.{Name}
 use Rattle.pts_terms.specs.Tree.{Named}
 use Rattle.pts_ctx.specs.System.{Specification}
-use Rattle.pts_costs.specs.Costs.{Globals}
-use Rattle.pts_costs.specs.Laws.{WithinBudget, AboveBudget}
-use Rattle.pts_typing.specs.Typing.{wanted, judged, by_flaw, by_limits, comes, stops}
+use Rattle.pts_reduce_cost.specs.Costs.{Globals}
+use Rattle.pts_reduce_cost.specs.Laws.{WithinBudget, AboveBudget}
+use Rattle.pts_infer_cost.specs.Typing.{wanted, judged, by_flaw, by_limits, comes, stops}
 use Rattle.pts_infer.specs.declared.answer.InferFault.{InferFault}
 use Rattle.pts_infer.specs.declared.answer.InferFault.TheVariants as infer
 use Rattle.pts_infer.specs.declared.answer.FitFault.{FitFault}

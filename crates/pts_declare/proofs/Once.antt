@@ -4,9 +4,9 @@ use mathlib.Core.Path.{ap₂}
 use Rattle.pts_names.specs.Name.{Name, joined}
 use Rattle.pts_terms.specs.Tree.{Named}
 use Rattle.pts_ctx.specs.System.{Specification}
-use Rattle.pts_costs.specs.Costs.{Globals}
-use Rattle.pts_typing.specs.Typing.{Fits, Flaw, FitFlaw, Stop, moved, judged, by_flaw, Outcome, comes, stops, inference_nesting}
-use Rattle.pts_typing.proofs.Exact.{inference_once, sorts_once, fit_once}
+use Rattle.pts_reduce_cost.specs.Costs.{Globals}
+use Rattle.pts_infer_cost.specs.Typing.{Fits, Flaw, FitFlaw, Stop, moved, judged, by_flaw, Outcome, comes, stops, inference_nesting}
+use Rattle.pts_infer_cost.proofs.Exact.{inference_once, sorts_once, fit_once}
 use Rattle.pts_infer.specs.Answered.{OfTerm, term_too_large, term_inferred, OfType, type_too_large, type_sorted, OfFitted, body_too_large, wanted_too_large, body_stops, body_fitted}
 use Rattle.pts_declare.specs.declared.fault.Part.TheVariants.{Whole, Ty}
 use Rattle.pts_declare.specs.Statements.{Statement, name_of, Stated, assumption, definition, typed_definition}

@@ -3,9 +3,9 @@ use Rattle.std.proofs.Common.{◌≡◌, ℕ, IfOk, IfErr, Result, arith, ap, sy
 use Rattle.pts_names.specs.Name.{Name, joined}
 use Rattle.pts_ctx.specs.System.{Specification}
 use Rattle.pts_ctx.specs.Seen.{place_of}
-use Rattle.pts_costs.specs.Costs.{Globals}
-use Rattle.pts_costs.specs.Laws.{WithinBudget}
-use Rattle.pts_typing.specs.Typing.{by_flaw, comes, stops}
+use Rattle.pts_reduce_cost.specs.Costs.{Globals}
+use Rattle.pts_reduce_cost.specs.Laws.{WithinBudget}
+use Rattle.pts_infer_cost.specs.Typing.{by_flaw, comes, stops}
 use Rattle.pts_parser.specs.declared.fault.ReadFault.{ReadFault}
 use Rattle.pts_parser.specs.declared.fault.ReadFault.TheVariants as read
 use Rattle.pts_parser.specs.Resolution.{UnlessMemory}

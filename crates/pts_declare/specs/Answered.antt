@@ -8,9 +8,9 @@ use Rattle.pts_ctx.specs.Seen.{global_within, place_of}
 use Rattle.pts_record.specs.declared.declaration.Declaration.{Declaration}
 use Rattle.pts_rules.specs.Valid.{IsValid, concludes}
 use Rattle.pts_check.specs.Entered.{declared, bare_declared}
-use Rattle.pts_costs.specs.Costs.{Globals}
-use Rattle.pts_costs.specs.Laws.{WithinBudget, AboveBudget}
-use Rattle.pts_typing.specs.Typing.{by_flaw, by_limits, stops}
+use Rattle.pts_reduce_cost.specs.Costs.{Globals}
+use Rattle.pts_reduce_cost.specs.Laws.{WithinBudget, AboveBudget}
+use Rattle.pts_infer_cost.specs.Typing.{by_flaw, by_limits, stops}
 use Rattle.pts_infer.specs.Answered.{flaw_seen}
 use Rattle.pts_infer.specs.declared.answer.InferFault.{InferFault}
 use Rattle.pts_infer.specs.declared.answer.InferFault.TheVariants as infer

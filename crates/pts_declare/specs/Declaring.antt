@@ -6,8 +6,8 @@ use Rattle.pts_ctx.specs.System.{Specification}
 use Rattle.pts_ctx.specs.Front.{Global}
 use Rattle.pts_ctx.specs.Seen.{place_of}
 use Rattle.pts_parser.specs.declared.fault.ReadFault.{ReadFault}
-use Rattle.pts_costs.specs.Costs.{Globals}
-use Rattle.pts_typing.specs.Typing.{Flaw, FitFlaw, wanted, judged, by_flaw, moved, Outcome, comes, stops}
+use Rattle.pts_reduce_cost.specs.Costs.{Globals}
+use Rattle.pts_infer_cost.specs.Typing.{Flaw, FitFlaw, wanted, judged, by_flaw, moved, Outcome, comes, stops}
 use Rattle.pts_infer.specs.Answered.{OfTerm, OfType, OfFitted}
 use Rattle.pts_declare.specs.declared.fault.Part.{Part}
 use Rattle.pts_declare.specs.declared.fault.Part.TheVariants.{Whole, Ty}

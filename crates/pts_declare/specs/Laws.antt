@@ -2,7 +2,7 @@
 use Rattle.std.specs.Prelude.{◌≡◌, ℕ}
 use Rattle.pts_names.specs.Name.{Name}
 use Rattle.pts_ctx.specs.System.{Specification}
-use Rattle.pts_costs.specs.Costs.{Globals}
+use Rattle.pts_reduce_cost.specs.Costs.{Globals}
 use Rattle.pts_declare.specs.Statements.{Statement}
 use Rattle.pts_declare.specs.Declaring.{Declaring, Declares}
 

@@ -4,7 +4,7 @@ use Rattle.pts_names.specs.Name.{Name, joined}
 use Rattle.pts_terms.specs.Tree.{Named}
 use Rattle.pts_ctx.specs.Front.{Global}
 use Rattle.pts_ctx.specs.Seen.{place_of}
-use Rattle.pts_syntax.specs.Syntax.{Syntax}
+use Rattle.pts_grammar.specs.Syntax.{Syntax}
 use Rattle.pts_parser.specs.declared.fault.ReadFault.{ReadFault}
 use Rattle.pts_parser.specs.Resolution.{is_plain, resolved, and_then}
 

@@ -2,12 +2,12 @@
 use Rattle.std.specs.Prelude.{ℕ, List, [], ◌∷◌, ◌++◌, codes, get_or}
 use Rattle.std.specs.Fmt.{decimal}
 use Rattle.pts_names.specs.Name.{Name}
-use Rattle.pts_syntax.specs.declared.kind.Kind.{Kind as Wanted}
-use Rattle.pts_syntax.specs.declared.kind.Kind.TheVariants.{Command, Term, Name as AName, Plain, Colon, Dot, Assign, In, Close, Semicolon, Number, End}
+use Rattle.pts_grammar.specs.declared.kind.Kind.{Kind as Wanted}
+use Rattle.pts_grammar.specs.declared.kind.Kind.TheVariants.{Command, Term, Name as AName, Plain, Colon, Dot, Assign, In, Close, Semicolon, Number, End}
 use Rattle.pts_parser.specs.declared.fault.ReadFault.{ReadFault}
 use Rattle.pts_parser.specs.declared.fault.ReadFault.TheVariants.{BadChar, LongName, Expected, TooDeep, UnknownName, UnknownSort, Memory}
-use Rattle.pts_typing.specs.Typing.{Kind, not_a_sort, not_product, no_rule, no_axiom, not_convertible, Flaw, Stop, by_flaw, by_limits}
-use Rattle.pts_written.specs.Locals.{printed}
+use Rattle.pts_infer_cost.specs.Typing.{Kind, not_a_sort, not_product, no_rule, no_axiom, not_convertible, Flaw, Stop, by_flaw, by_limits}
+use Rattle.pts_printed.specs.Locals.{printed}
 use Rattle.pts_declare.specs.declared.fault.Part.{Part}
 use Rattle.pts_declare.specs.declared.fault.Part.TheVariants.{Whole, Ty}
 use Rattle.pts_declare.specs.Declaring.{Reason, unread, taken, flawed}

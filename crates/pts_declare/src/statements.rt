@@ -4,11 +4,11 @@ ghost use Rattle.std.specs.Prelude.{◌≡◌, ◌≤◌, length, true, IfOk, If
 ghost use Rattle.pts_names.specs.Name.{joined};
 ghost use Rattle.pts_ctx.specs.Front.{Fresh};
 ghost use Rattle.pts_ctx.specs.Seen.{place_of};
-ghost use Rattle.pts_syntax.specs.Seen.{syntax_of};
+ghost use Rattle.pts_grammar.specs.Seen.{syntax_of};
 ghost use Rattle.pts_parser.specs.Resolution.{Answers};
 ghost use Rattle.pts_rules.specs.Meter.{left};
-ghost use Rattle.pts_costs.specs.Laws.{WithinBudget};
-ghost use Rattle.pts_typing.specs.Typing.{comes};
+ghost use Rattle.pts_reduce_cost.specs.Laws.{WithinBudget};
+ghost use Rattle.pts_infer_cost.specs.Typing.{comes};
 ghost use Rattle.pts_check.specs.Entered.{declared};
 ghost use Rattle.pts_reduce.specs.Given.{Later};
 ghost use Rattle.pts_declare.specs.Statements.{Statement, assumes, defines, name_of, is_declarable, stated, visible};

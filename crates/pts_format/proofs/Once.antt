@@ -6,13 +6,13 @@ use Rattle.pts_tokens.specs.declared.token.Token.TheVariants.{Open}
 use Rattle.pts_tokens.specs.declared.fault.TokenFault.{TokenFault}
 use Rattle.pts_tokens.specs.declared.fault.TokenFault.TheVariants as token
 use Rattle.pts_tokens.specs.Tokens.{Spot}
-use Rattle.pts_syntax.specs.declared.kind.Kind.{Kind}
-use Rattle.pts_syntax.specs.declared.fault.SyntaxFault.TheVariants as syntax
-use Rattle.pts_syntax.specs.Syntax.{Syntax, depth_of}
-use Rattle.pts_syntax.specs.Grammar.{Reads}
-use Rattle.pts_syntax.specs.Refusals.{Viable, Refused, open_behind, at_token, at_length, too_many, NoneTooMany, FirstTooMany, first_too_many}
-use Rattle.pts_syntax.proofs.Sound.{one_syntax}
-use Rattle.pts_syntax.proofs.Determined.{determined}
+use Rattle.pts_grammar.specs.declared.kind.Kind.{Kind}
+use Rattle.pts_grammar.specs.declared.fault.SyntaxFault.TheVariants as syntax
+use Rattle.pts_grammar.specs.Syntax.{Syntax, depth_of}
+use Rattle.pts_grammar.specs.Grammar.{Reads}
+use Rattle.pts_grammar.specs.Refusals.{Viable, Refused, open_behind, at_token, at_length, too_many, NoneTooMany, FirstTooMany, first_too_many}
+use Rattle.pts_grammar.proofs.Sound.{one_syntax}
+use Rattle.pts_grammar.proofs.Determined.{determined}
 use Rattle.pts_parser.specs.declared.fault.ReadFault.{ReadFault}
 use Rattle.pts_parser.specs.declared.fault.ReadFault.TheVariants.{BadChar, LongName, Expected, TooDeep, UnknownName, UnknownSort, Memory}
 use Rattle.pts_parser.specs.Resolution.{resolved}

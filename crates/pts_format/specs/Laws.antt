@@ -3,8 +3,8 @@ use Rattle.std.specs.Prelude.{◌≡◌, ℕ, List, [], Ok, IsTrue}
 use Rattle.pts_terms.specs.Tree.{Named}
 use Rattle.pts_terms.specs.Limits.{within}
 use Rattle.pts_parser.specs.Reading.{Means}
-use Rattle.pts_written.specs.Laws.{HasNames, SpellSorts, MeansEqual}
-use Rattle.pts_written.specs.Locals.{printed}
+use Rattle.pts_printed.specs.Laws.{HasNames, SpellSorts, MeansEqual}
+use Rattle.pts_printed.specs.Locals.{printed}
 use Rattle.pts_format.specs.Lines.{no_constants, LineSays, AnswersAll}
 
 -- A line has one answer at most.

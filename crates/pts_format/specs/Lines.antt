@@ -6,7 +6,7 @@ use Rattle.pts_terms.specs.Tree.{Named}
 use Rattle.pts_parser.specs.declared.fault.ReadFault.{ReadFault}
 use Rattle.pts_parser.specs.declared.fault.ReadFault.TheVariants.{Memory}
 use Rattle.pts_parser.specs.Reading.{Means, RefusesTerm}
-use Rattle.pts_written.specs.Locals.{printed}
+use Rattle.pts_printed.specs.Locals.{printed}
 use Rattle.pts_io.specs.Lines.{IsText}
 use Rattle.pts_format.specs.Words.{refusal_line, bad_line}
 

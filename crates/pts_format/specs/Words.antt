@@ -1,8 +1,8 @@
 -- How the refusal of a text is printed: its variant's name and its values, with a blank before each.
 use Rattle.std.specs.Prelude.{ℕ, List, ◌++◌, codes}
 use Rattle.std.specs.Fmt.{decimal}
-use Rattle.pts_syntax.specs.declared.kind.Kind.{Kind}
-use Rattle.pts_syntax.specs.declared.kind.Kind.TheVariants.{Command, Term, Name, Plain, Colon, Dot, Assign, In, Close, Semicolon, Number, End}
+use Rattle.pts_grammar.specs.declared.kind.Kind.{Kind}
+use Rattle.pts_grammar.specs.declared.kind.Kind.TheVariants.{Command, Term, Name, Plain, Colon, Dot, Assign, In, Close, Semicolon, Number, End}
 use Rattle.pts_parser.specs.declared.fault.ReadFault.{ReadFault}
 use Rattle.pts_parser.specs.declared.fault.ReadFault.TheVariants.{BadChar, LongName, Expected, TooDeep, UnknownName, UnknownSort, Memory}
 

@@ -8,15 +8,15 @@ use Rattle.pts_ctx.specs.System.{Specification}
 use Rattle.pts_ctx.specs.Front.{Global, Front, bare_front, unknown}
 use Rattle.pts_record.specs.declared.shape.Form.TheVariants.{Bare as BareForm, Same, Left, Right, CongApp, CongLam, CongPi}
 use Rattle.pts_record.specs.Table.{Tables, named_at, bare_at, bare_trees}
-use Rattle.pts_record.specs.Said.{Said, nothing, context, judgement, comparison, scope_of, longer, by_bare, line_of, told, named_told, bare_local, bare_scope, bare_said, is_context}
-use Rattle.pts_record.proofs.Named.{told_bare}
+use Rattle.pts_record.specs.Said.{Said, Scope, nothing, context, judgement, comparison, scope_of, longer, by_bare, line_of, told, named_told, bare_local, bare_scope, bare_said, is_context}
+use Rattle.pts_record.proofs.Named.{told_bare, scope_bare}
 use Rattle.pts_record.proofs.Trees.{bare_of_named}
 use Rattle.pts_rules.specs.declared.why.Why.{Why}
 use Rattle.pts_rules.specs.Step.{head_step}
 use Rattle.pts_rules.specs.Conditions.{form_fault, in_order, comparison_kinds, both_places, binder_places, same_conditions, left_conditions, right_conditions, bare_conditions, capp_terms, clam_terms, cpi_terms}
 use Rattle.pts_rules.specs.Parts.{is_that, is_bare_of}
 use Rattle.pts_rules.proofs.HeadBare.{head_step_bare}
-use Rattle.pts_rules.proofs.Passing.{AllPass, none_fails}
+use Rattle.pts_rules.proofs.Passing.{AllPass, none_fails, is_same, all_in_order}
 use Rattle.pts_grow.specs.declared.compared.Compared.{Compared}
 use Rattle.pts_grow.specs.Keeps.{Keeps, Compares, IsBareOf, IsNode}
 use Rattle.pts_grow.proofs.Grow.{stays, node_stays, tree_stays, told_stays}
@@ -55,28 +55,22 @@ context_bare (context s) = refl
 context_bare (judgement c s t T) = refl
 context_bare (comparison c s t u) = refl
 
-scope_bare : {B : Type 0} (m : Said B) → scope_of (bare_said m) ≡ bare_scope (scope_of m)
-scope_bare nothing = refl
-scope_bare (context s) = refl
-scope_bare (judgement c s t T) = refl
-scope_bare (comparison c s t u) = refl
+-- The scope of a context, and what a comparison says, without printed names.
+abbrev pub scope_at : Tables → ℕ → Scope (Unit {0})
+scope_at r c = bare_scope (scope_of (named_told r c))
 
-is_same : {t u : Bare} → t ≡ u → same_term t u ≡ true
-is_same {t} {u} e = rw e (same_term_self u)
+abbrev pub comparing : Tables → ℕ → Compared → Said (Unit {0})
+comparing r c p = comparison c (scope_at r c) (bare_at r.shapes p.left) (bare_at r.shapes p.right)
 
-all_in_order : (kinds places terms : List (Bool × Why)) → AllPass kinds → AllPass places → AllPass terms → in_order kinds places terms ≡ None
-all_in_order kinds places terms k p t = rw (none_fails kinds k, none_fails places p, none_fails terms t) refl
+pub compared_bare : (r : Tables) (c : ℕ) (p : Compared) → Compares r c p → told r p.node ≡ comparing r c p
+compared_bare r c p q =
+    told_bare r p.node ∙ ap bare_said q.2.1
+    ∙ ap (λ t. comparison c (scope_at r c) t (bare (named_at r.shapes p.right))) (bare_of_named r.shapes p.left)
+    ∙ ap (comparison c (scope_at r c) (bare_at r.shapes p.left)) (bare_of_named r.shapes p.right)
 
 module _ (r : Tables) (c : ℕ) (k : is_context (named_told r c) ≡ true) where
   typed : is_context (told r c) ≡ true
   typed = ap is_context (told_bare r c) ∙ context_bare (named_told r c) ∙ k
-
-  -- what a comparison says without printed names
-  said_bare : (p : Compared) → Compares r c p → told r p.node ≡ comparison c (bare_scope (scope_of (named_told r c))) (bare_at r.shapes p.left) (bare_at r.shapes p.right)
-  said_bare p q =
-      told_bare r p.node ∙ ap bare_said q.2.1
-      ∙ ap (λ t. comparison c (bare_scope (scope_of (named_told r c))) t (bare (named_at r.shapes p.right))) (bare_of_named r.shapes p.left)
-      ∙ ap (comparison c (bare_scope (scope_of (named_told r c))) (bare_at r.shapes p.left)) (bare_of_named r.shapes p.right)
 
   entries_bare : (scope_of (told r c)).entries ≡ map bare_local (scope_of (named_told r c)).entries
   entries_bare = ap (λ m. (scope_of m).entries) (told_bare r c) ∙ ap (λ s. s.entries) (scope_bare (named_told r c))
@@ -103,7 +97,7 @@ module _ (r : Tables) (c : ℕ) (k : is_context (named_told r c) ≡ true) where
     pub left_ok : (G : List (Global Name)) (left : ℕ) (p : Compared) → Compares r c p → head_step G (scope_of (named_told r c)).entries (named_at r.shapes left) ≡ Some (named_at r.shapes p.left) → form_fault S (bare_front G) Left (line_of (bare_trees r.shapes) (record { form = Left; ctx = c; subject = left; claim = p.right; first = p.node; second = 0; third = 0 })) (told r c) (told r p.node) (told r 0) (told r 0) ≡ None
     left_ok G left p q h =
         let l = line_of (bare_trees r.shapes) (record { form = Left; ctx = c; subject = left; claim = p.right; first = p.node; second = 0; third = 0 }) in
-        let e = said_bare p q in
+        let e = compared_bare r c p q in
         let tests : AllPass (left_conditions (bare_front G) l (told r c) (comparison c (bare_scope (scope_of (named_told r c))) (bare_at r.shapes p.left) (bare_at r.shapes p.right))) =
         (typed, (refl, (nat_eq_self c, (same_term_self (bare_at r.shapes p.right), (stepped G left p.left h, tt))))) in
         rw e (none_fails (left_conditions (bare_front G) l (told r c) (comparison c (bare_scope (scope_of (named_told r c))) (bare_at r.shapes p.left) (bare_at r.shapes p.right))) tests)
@@ -111,7 +105,7 @@ module _ (r : Tables) (c : ℕ) (k : is_context (named_told r c) ≡ true) where
     pub right_ok : (G : List (Global Name)) (right : ℕ) (p : Compared) → Compares r c p → head_step G (scope_of (named_told r c)).entries (named_at r.shapes right) ≡ Some (named_at r.shapes p.right) → form_fault S (bare_front G) Right (line_of (bare_trees r.shapes) (record { form = Right; ctx = c; subject = p.left; claim = right; first = p.node; second = 0; third = 0 })) (told r c) (told r p.node) (told r 0) (told r 0) ≡ None
     right_ok G right p q h =
         let l = line_of (bare_trees r.shapes) (record { form = Right; ctx = c; subject = p.left; claim = right; first = p.node; second = 0; third = 0 }) in
-        let e = said_bare p q in
+        let e = compared_bare r c p q in
         let tests : AllPass (right_conditions (bare_front G) l (told r c) (comparison c (bare_scope (scope_of (named_told r c))) (bare_at r.shapes p.left) (bare_at r.shapes p.right))) =
         (typed, (refl, (nat_eq_self c, (same_term_self (bare_at r.shapes p.left), (stepped G right p.right h, tt))))) in
         rw e (none_fails (right_conditions (bare_front G) l (told r c) (comparison c (bare_scope (scope_of (named_told r c))) (bare_at r.shapes p.left) (bare_at r.shapes p.right))) tests)
@@ -124,7 +118,7 @@ module _ (r : Tables) (c : ℕ) (k : is_context (named_told r c) ≡ true) where
         let kinds : AllPass (comparison_kinds (told r c) m n) = (typed, (refl, (refl, tt))) in
         let places : AllPass (both_places l m n) = (nat_eq_self c, (nat_eq_self c, tt)) in
         let terms : AllPass (capp_terms l m n) = (is_same a, (is_same b, tt)) in
-        rw (said_bare p h, said_bare q g) (all_in_order (comparison_kinds (told r c) m n) (both_places l m n) (capp_terms l m n) kinds places terms)
+        rw (compared_bare r c p h, compared_bare r c q g) (all_in_order (comparison_kinds (told r c) m n) (both_places l m n) (capp_terms l m n) kinds places terms)
 
     module _ (left right i : ℕ) (p q : Compared) (h : Compares r c p) (n : IsBareOf r c i) (g : Compares r i q) where
       inner : told r q.node ≡ comparison i (bare_scope (scope_of (named_told r i))) (bare_at r.shapes q.left) (bare_at r.shapes q.right)
@@ -144,7 +138,7 @@ module _ (r : Tables) (c : ℕ) (k : is_context (named_told r c) ≡ true) where
           let kinds : AllPass (comparison_kinds (told r c) m k) = (typed, (refl, (refl, tt))) in
           let places : AllPass (binder_places l m k) = (nat_eq_self c, (ap (is_bare_of c) made ∙ nat_eq_self c, tt)) in
           let terms : AllPass (clam_terms l m k) = (is_same a, (is_same b, tt)) in
-          rw (said_bare p h, inner) (all_in_order (comparison_kinds (told r c) m k) (binder_places l m k) (clam_terms l m k) kinds places terms)
+          rw (compared_bare r c p h, inner) (all_in_order (comparison_kinds (told r c) m k) (binder_places l m k) (clam_terms l m k) kinds places terms)
 
       pub cpi_ok : (G : Front) → bare_at r.shapes left ≡ pi (bare_at r.shapes p.left) (bare_at r.shapes q.left) → bare_at r.shapes right ≡ pi (bare_at r.shapes p.right) (bare_at r.shapes q.right) → form_fault S G CongPi (line_of (bare_trees r.shapes) (record { form = CongPi; ctx = c; subject = left; claim = right; first = p.node; second = q.node; third = 0 })) (told r c) (told r p.node) (told r q.node) (told r 0) ≡ None
       cpi_ok G a b =
@@ -154,4 +148,4 @@ module _ (r : Tables) (c : ℕ) (k : is_context (named_told r c) ≡ true) where
           let kinds : AllPass (comparison_kinds (told r c) m k) = (typed, (refl, (refl, tt))) in
           let places : AllPass (binder_places l m k) = (nat_eq_self c, (ap (is_bare_of c) made ∙ nat_eq_self c, tt)) in
           let terms : AllPass (cpi_terms l m k) = (is_same a, (is_same b, tt)) in
-          rw (said_bare p h, inner) (all_in_order (comparison_kinds (told r c) m k) (binder_places l m k) (cpi_terms l m k) kinds places terms)
+          rw (compared_bare r c p h, inner) (all_in_order (comparison_kinds (told r c) m k) (binder_places l m k) (cpi_terms l m k) kinds places terms)

@@ -3,3 +3,10 @@ pub mod Limits
 pub mod Lifted
 pub mod Instances
 pub mod Taken
+pub mod Judgements
+pub mod Plain
+pub mod Longer
+pub mod Atoms
+pub mod Binders
+pub mod Defined
+pub mod Converted

@@ -5,12 +5,12 @@ use Rattle.pts_terms.specs.Tree.{Named}
 use Rattle.pts_ctx.specs.System.{Specification}
 use Rattle.pts_record.specs.declared.shape.Shape.{Shape}
 use Rattle.pts_record.specs.Table.{Tables, named_at}
-use Rattle.pts_costs.specs.Costs.{Globals, Entries}
-use Rattle.pts_costs.specs.Run.{ends}
-use Rattle.pts_typing.specs.Typing.{into, of_argument, made}
-use Rattle.pts_typing.specs.Inference.{gives, Typer, fitted, product_found, argument_fitted, argument_inferred, function_typed, application}
-use Rattle.pts_typing.proofs.ByParts.{application_is, function_typed_is, argument_inferred_is, argument_fitted_is}
-use Rattle.pts_typing.proofs.Steps.{application_goes_on, function_typed_goes_on, argument_inferred_goes_on, argument_fitted_goes_on}
+use Rattle.pts_reduce_cost.specs.Costs.{Globals, Entries}
+use Rattle.pts_reduce_cost.specs.Run.{ends}
+use Rattle.pts_infer_cost.specs.Typing.{into, of_argument, made}
+use Rattle.pts_infer_cost.specs.Inference.{gives, Typer, fitted, product_found, argument_fitted, argument_inferred, function_typed, application}
+use Rattle.pts_infer_cost.proofs.ByParts.{application_is, function_typed_is, argument_inferred_is, argument_fitted_is}
+use Rattle.pts_infer_cost.proofs.Steps.{application_goes_on, function_typed_goes_on, argument_inferred_goes_on, argument_fitted_goes_on}
 use Rattle.pts_grow.specs.Keeps.{Keeps}
 use Rattle.pts_grow.proofs.Grow.{tree_stays}
 use Rattle.pts_reduce.specs.Chain.{entries_of}

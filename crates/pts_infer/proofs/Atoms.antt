@@ -9,14 +9,14 @@ use Rattle.pts_ctx.specs.Front.{Global, find, Local, assumed, defined, unknown, 
 use Rattle.pts_ctx.specs.Seen.{global_within, body_within}
 use Rattle.pts_record.specs.declared.shape.Shape.{Shape}
 use Rattle.pts_record.specs.Table.{Tables, named_at, bare_at}
-use Rattle.pts_costs.specs.Costs.{Globals, Entries}
-use Rattle.pts_costs.specs.Run.{ends, spent}
-use Rattle.pts_typing.specs.Typing.{type_at}
-use Rattle.pts_typing.specs.Inference.{looked_up, type_of_global}
-use Rattle.pts_typing.proofs.Ends.{type_looked_up, nothing_looked_up}
+use Rattle.pts_reduce_cost.specs.Costs.{Globals, Entries}
+use Rattle.pts_reduce_cost.specs.Run.{ends, spent}
+use Rattle.pts_infer_cost.specs.Typing.{type_at}
+use Rattle.pts_infer_cost.specs.Inference.{looked_up, type_of_global}
+use Rattle.pts_infer_cost.proofs.Ends.{type_looked_up, nothing_looked_up}
 use Rattle.pts_grow.proofs.Lifted.{stands_within}
-use Rattle.pts_judge.specs.Judges.{IsSort, type_in}
-use Rattle.pts_judge.proofs.Plain.{plain_sort}
+use Rattle.pts_grow.specs.Judges.{IsSort, type_in}
+use Rattle.pts_grow.proofs.Plain.{plain_sort}
 
 -- Sorts.
 pub sort_there : (r : Tables) (t s : ℕ) → named_at r.shapes t ≡ sort s → IsSort r t

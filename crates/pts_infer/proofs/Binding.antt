@@ -7,16 +7,16 @@ use Rattle.pts_ctx.specs.Front.{assumed}
 use Rattle.pts_record.specs.declared.shape.Shape.{Shape}
 use Rattle.pts_record.specs.Table.{Tables, named_at}
 use Rattle.pts_record.specs.Said.{scope_of}
-use Rattle.pts_costs.specs.Costs.{Globals, Entries}
-use Rattle.pts_costs.specs.Run.{ends}
-use Rattle.pts_typing.specs.Typing.{into, under, unsorted, comes, made, by_rule}
-use Rattle.pts_typing.specs.Inference.{gives, Typer, sorted, product, product_body, abstraction, body_inferred, body_sorted}
-use Rattle.pts_typing.proofs.ByParts.{product_is, product_body_is, abstraction_is, body_inferred_is, body_sorted_is}
-use Rattle.pts_typing.proofs.Steps.{product_goes_on, product_body_goes_on, abstraction_goes_on, body_inferred_goes_on, body_sorted_goes_on}
+use Rattle.pts_reduce_cost.specs.Costs.{Globals, Entries}
+use Rattle.pts_reduce_cost.specs.Run.{ends}
+use Rattle.pts_infer_cost.specs.Typing.{into, under, unsorted, comes, made, by_rule}
+use Rattle.pts_infer_cost.specs.Inference.{gives, Typer, sorted, product, product_body, abstraction, body_inferred, body_sorted}
+use Rattle.pts_infer_cost.proofs.ByParts.{product_is, product_body_is, abstraction_is, body_inferred_is, body_sorted_is}
+use Rattle.pts_infer_cost.proofs.Steps.{product_goes_on, product_body_goes_on, abstraction_goes_on, body_inferred_goes_on, body_sorted_goes_on}
 use Rattle.pts_grow.specs.Keeps.{Keeps}
 use Rattle.pts_grow.proofs.Grow.{tree_stays}
-use Rattle.pts_judge.specs.declared.judged.Judged.{Judged}
-use Rattle.pts_judge.specs.Judges.{IsAssumeOf}
+use Rattle.pts_grow.specs.declared.judged.Judged.{Judged}
+use Rattle.pts_grow.specs.Judges.{IsAssumeOf}
 use Rattle.pts_reduce.specs.Chain.{entries_of}
 use Rattle.pts_infer.specs.declared.fault.Fault.{Fault}
 use Rattle.pts_infer.specs.Given.{StopsWith, ToldAs}

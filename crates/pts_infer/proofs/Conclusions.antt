@@ -15,19 +15,19 @@ use Rattle.pts_record.specs.declared.shape.Node.{Node}
 use Rattle.pts_record.specs.Table.{Tables, named_at, bare_at}
 use Rattle.pts_record.specs.Said.{told}
 use Rattle.pts_rules.specs.Valid.{IsValid, first_fault, last_said, concludes_as}
-use Rattle.pts_costs.specs.Costs.{Globals}
-use Rattle.pts_costs.specs.Run.{Run, ends, fails, deep, spent}
-use Rattle.pts_costs.specs.Laws.{WithinBudget, AboveBudget}
-use Rattle.pts_typing.specs.Typing.{Flaw, FitFlaw, Infers, Sorts, Fits, wanted, judged, by_flaw, Outcome, comes, stops, by_limits, inference_nesting}
-use Rattle.pts_typing.specs.Laws.{IsWork}
-use Rattle.pts_typing.specs.Inference.{inferred, sorted}
-use Rattle.pts_typing.proofs.Exact.{inference_exact, sorts_exact, inference_once}
+use Rattle.pts_reduce_cost.specs.Costs.{Globals}
+use Rattle.pts_reduce_cost.specs.Run.{Run, ends, fails, deep, spent}
+use Rattle.pts_reduce_cost.specs.Laws.{WithinBudget, AboveBudget}
+use Rattle.pts_infer_cost.specs.Typing.{Flaw, FitFlaw, Infers, Sorts, Fits, wanted, judged, by_flaw, Outcome, comes, stops, by_limits, inference_nesting}
+use Rattle.pts_infer_cost.specs.Laws.{IsWork}
+use Rattle.pts_infer_cost.specs.Inference.{inferred, sorted}
+use Rattle.pts_infer_cost.proofs.Exact.{inference_exact, sorts_exact, inference_once}
 use Rattle.pts_grow.specs.Keeps.{Keeps, StaysValid}
 use Rattle.pts_grow.proofs.Grow.{with_node, node_stays}
-use Rattle.pts_judge.specs.declared.judged.Judged.{Judged}
-use Rattle.pts_judge.specs.Judges.{Judges}
-use Rattle.pts_judge.proofs.Nodes.{judged_bare, still_typed}
-use Rattle.pts_judge.proofs.Plain.{plain, plain_sort}
+use Rattle.pts_grow.specs.declared.judged.Judged.{Judged}
+use Rattle.pts_grow.specs.Judges.{Judges}
+use Rattle.pts_grow.proofs.Judgements.{judged_bare, still_typed}
+use Rattle.pts_grow.proofs.Plain.{plain, plain_sort}
 use Rattle.pts_reduce.specs.Chain.{entries_of}
 use Rattle.pts_infer.specs.declared.fault.Fault.{Fault}
 use Rattle.pts_infer.specs.declared.fault.Fault.TheVariants.{Spent, Deep, Memory, Flawed}

@@ -7,16 +7,16 @@ use Rattle.pts_ctx.specs.Front.{defined}
 use Rattle.pts_record.specs.declared.shape.Shape.{Shape}
 use Rattle.pts_record.specs.Table.{Tables, named_at}
 use Rattle.pts_record.specs.Said.{scope_of}
-use Rattle.pts_costs.specs.Costs.{Globals, Entries}
-use Rattle.pts_costs.specs.Run.{ends, and_then, turned}
-use Rattle.pts_typing.specs.Typing.{into, under, unsorted, of_definition, made, as_sort}
-use Rattle.pts_typing.specs.Inference.{gives, Typer, sorted, fitted, local_definition, definition_fitted, definition_body, definition_type, definition_type_as}
-use Rattle.pts_typing.proofs.ByParts.{local_definition_is, definition_fitted_is, definition_body_is}
-use Rattle.pts_typing.proofs.Steps.{local_definition_goes_on, definition_fitted_goes_on, definition_body_goes_on, definition_type_goes_on, sort_for_definition}
+use Rattle.pts_reduce_cost.specs.Costs.{Globals, Entries}
+use Rattle.pts_reduce_cost.specs.Run.{ends, and_then, turned}
+use Rattle.pts_infer_cost.specs.Typing.{into, under, unsorted, of_definition, made, as_sort}
+use Rattle.pts_infer_cost.specs.Inference.{gives, Typer, sorted, fitted, local_definition, definition_fitted, definition_body, definition_type, definition_type_as}
+use Rattle.pts_infer_cost.proofs.ByParts.{local_definition_is, definition_fitted_is, definition_body_is}
+use Rattle.pts_infer_cost.proofs.Steps.{local_definition_goes_on, definition_fitted_goes_on, definition_body_goes_on, definition_type_goes_on, sort_for_definition}
 use Rattle.pts_grow.specs.Keeps.{Keeps}
 use Rattle.pts_grow.proofs.Grow.{tree_stays}
-use Rattle.pts_judge.specs.declared.judged.Judged.{Judged}
-use Rattle.pts_judge.specs.Judges.{IsDefineOf}
+use Rattle.pts_grow.specs.declared.judged.Judged.{Judged}
+use Rattle.pts_grow.specs.Judges.{IsDefineOf}
 use Rattle.pts_reduce.specs.Chain.{entries_of}
 use Rattle.pts_infer.specs.declared.fault.Fault.{Fault}
 use Rattle.pts_infer.specs.declared.fault.Misfit.{Misfit}

@@ -4,13 +4,13 @@ use Rattle.pts_terms.specs.Tree.{Named, bare, pi, sort, const, var, app, named_l
 use Rattle.pts_ctx.specs.System.{Specification}
 use Rattle.pts_record.specs.declared.shape.Shape.{Shape}
 use Rattle.pts_record.specs.Table.{Tables, named_at, bare_at}
-use Rattle.pts_costs.specs.Costs.{Globals, Entries}
-use Rattle.pts_costs.specs.Run.{Run, ends, fails}
-use Rattle.pts_costs.specs.Work.{reduced}
-use Rattle.pts_typing.specs.Typing.{Flaw, here, not_product, as_product}
-use Rattle.pts_typing.specs.Inference.{Typer, sorted, product_found}
-use Rattle.pts_typing.proofs.Tests.{product_at_once, product_large, product_unreduced, product_missing, product_form_sorted, product_form_flawed, product_form_deep, product_form_spent}
-use Rattle.pts_judge.proofs.Plain.{plain}
+use Rattle.pts_reduce_cost.specs.Costs.{Globals, Entries}
+use Rattle.pts_reduce_cost.specs.Run.{Run, ends, fails}
+use Rattle.pts_reduce_cost.specs.Work.{reduced}
+use Rattle.pts_infer_cost.specs.Typing.{Flaw, here, not_product, as_product}
+use Rattle.pts_infer_cost.specs.Inference.{Typer, sorted, product_found}
+use Rattle.pts_infer_cost.proofs.Tests.{product_at_once, product_large, product_unreduced, product_missing, product_form_sorted, product_form_flawed, product_form_deep, product_form_spent}
+use Rattle.pts_grow.proofs.Plain.{plain}
 use Rattle.pts_grow.specs.Keeps.{Keeps}
 use Rattle.pts_grow.proofs.Grow.{tree_stays}
 use Rattle.pts_reduce.specs.Chain.{entries_of}

@@ -4,13 +4,13 @@ use Rattle.pts_terms.specs.Tree.{Named, bare, same_term}
 use Rattle.pts_ctx.specs.System.{Specification}
 use Rattle.pts_record.specs.declared.shape.Shape.{Shape}
 use Rattle.pts_record.specs.Table.{Tables, named_at, bare_at}
-use Rattle.pts_costs.specs.Costs.{Globals, Entries}
-use Rattle.pts_costs.specs.Run.{ends}
-use Rattle.pts_typing.specs.Inference.{Typer, sorted, fitted, fit_tested, types_compared}
-use Rattle.pts_typing.proofs.ByParts.{fit_tested_is}
-use Rattle.pts_typing.proofs.Tests.{fitted_equal, fitted_by_test, fit_tested_goes_on}
+use Rattle.pts_reduce_cost.specs.Costs.{Globals, Entries}
+use Rattle.pts_reduce_cost.specs.Run.{ends}
+use Rattle.pts_infer_cost.specs.Inference.{Typer, sorted, fitted, fit_tested, types_compared}
+use Rattle.pts_infer_cost.proofs.ByParts.{fit_tested_is}
+use Rattle.pts_infer_cost.proofs.Tests.{fitted_equal, fitted_by_test, fit_tested_goes_on}
 use Rattle.pts_terms.proofs.Same.{same_term_eq}
-use Rattle.pts_judge.proofs.Plain.{plain}
+use Rattle.pts_grow.proofs.Plain.{plain}
 use Rattle.pts_grow.specs.Keeps.{Keeps}
 use Rattle.pts_grow.proofs.Grow.{tree_stays}
 use Rattle.pts_reduce.specs.Chain.{entries_of}

@@ -2,15 +2,15 @@
 use Rattle.std.proofs.Common.{◌≡◌, ℕ, ◌<◌, refl, sym, ap, ◌∙◌, subst, List, length, arith}
 use Rattle.pts_terms.specs.Tree.{Named}
 use Rattle.pts_record.specs.Table.{Tables, named_at}
-use Rattle.pts_costs.specs.Costs.{Globals, Entries, Reduct, form, too_large, Reduces, Verdict, yes_, no_, beyond, Tests, nesting}
-use Rattle.pts_costs.specs.Run.{Run, ends, fails, deep, spent}
-use Rattle.pts_costs.specs.Work.{reduced, tested, Answer}
-use Rattle.pts_costs.specs.Laws.{WithinBudget, AboveBudget, IsReduction, IsTest}
-use Rattle.pts_costs.proofs.Reached.{reduction_reached, test_reached}
-use Rattle.pts_costs.proofs.Exact.{reduction_exact, test_exact}
-use Rattle.pts_typing.specs.Typing.{FitFlaw, here, judged, not_convertible}
-use Rattle.pts_typing.specs.Inference.{misfit, types_compared}
-use Rattle.pts_typing.proofs.Tests.{types_agree, types_differ, types_deep, types_spent}
+use Rattle.pts_reduce_cost.specs.Costs.{Globals, Entries, Reduct, form, too_large, Reduces, Verdict, yes_, no_, beyond, Tests, nesting}
+use Rattle.pts_reduce_cost.specs.Run.{Run, ends, fails, deep, spent}
+use Rattle.pts_reduce_cost.specs.Work.{reduced, tested, Answer}
+use Rattle.pts_reduce_cost.specs.Laws.{WithinBudget, AboveBudget, IsReduction, IsTest}
+use Rattle.pts_reduce_cost.proofs.Reached.{reduction_reached, test_reached}
+use Rattle.pts_reduce_cost.proofs.Exact.{reduction_exact, test_exact}
+use Rattle.pts_infer_cost.specs.Typing.{FitFlaw, here, judged, not_convertible}
+use Rattle.pts_infer_cost.specs.Inference.{misfit, types_compared}
+use Rattle.pts_infer_cost.proofs.Tests.{types_agree, types_differ, types_deep, types_spent}
 use Rattle.pts_grow.specs.Keeps.{Keeps}
 use Rattle.pts_grow.proofs.Grow.{tree_stays}
 use Rattle.pts_reduce.specs.declared.fault.ReduceFault.{ReduceFault}

@@ -5,9 +5,9 @@ use Rattle.std.proofs.lemmas.List.{reverse-append}
 use Rattle.pts_names.specs.Name.{Name}
 use Rattle.pts_record.specs.declared.shape.Shape.{Shape}
 use Rattle.pts_record.specs.Table.{named_at}
-use Rattle.pts_costs.specs.Run.{Run, fails, turned, and_then}
-use Rattle.pts_typing.specs.Typing.{Flaw, FitFlaw, here, into, under, unsorted, wanted, judged, not_a_sort, not_product, of_argument, of_definition}
-use Rattle.pts_typing.proofs.ByParts.{part_fails, part_deep, part_spent, turned_fails, turned_deep, turned_spent}
+use Rattle.pts_reduce_cost.specs.Run.{Run, fails, turned, and_then}
+use Rattle.pts_infer_cost.specs.Typing.{Flaw, FitFlaw, here, into, under, unsorted, wanted, judged, not_a_sort, not_product, of_argument, of_definition}
+use Rattle.pts_infer_cost.proofs.ByParts.{part_fails, part_deep, part_spent, turned_fails, turned_deep, turned_spent}
 use Rattle.pts_infer.specs.declared.fault.What.{What}
 use Rattle.pts_infer.specs.declared.fault.Found.{Found}
 use Rattle.pts_infer.specs.declared.fault.Fault.{Fault}

@@ -8,17 +8,17 @@ use Rattle.pts_record.specs.Table.{Tables, named_at}
 use Rattle.pts_record.specs.declared.shape.Form.{Form}
 use Rattle.pts_record.specs.declared.shape.Form.TheVariants.{Empty, Assume, Define, Bare as BareForm, Same, Left, Right, CongApp, CongLam, CongPi}
 use Rattle.pts_record.specs.Said.{Said, Line, named_told, judgement, scope_of, say_as, is_judgement, has_terms, place_of, subject_of, claim_of}
-use Rattle.pts_costs.specs.Costs.{Globals, Entries}
-use Rattle.pts_costs.specs.Run.{Run, ends}
-use Rattle.pts_costs.specs.Laws.{WithinBudget}
-use Rattle.pts_typing.specs.Typing.{Flaw, FitFlaw, SortTest, Fits, Infers, Outcome, comes, inference_nesting}
-use Rattle.pts_typing.specs.Laws.{IsWork}
-use Rattle.pts_typing.specs.Inference.{inferred, sort_tested, fitted}
-use Rattle.pts_typing.proofs.Exact.{inference_within, inference_exact, sort_test_within, sort_test_exact, fit_within, fit_exact}
+use Rattle.pts_reduce_cost.specs.Costs.{Globals, Entries}
+use Rattle.pts_reduce_cost.specs.Run.{Run, ends}
+use Rattle.pts_reduce_cost.specs.Laws.{WithinBudget}
+use Rattle.pts_infer_cost.specs.Typing.{Flaw, FitFlaw, SortTest, Fits, Infers, Outcome, comes, inference_nesting}
+use Rattle.pts_infer_cost.specs.Laws.{IsWork}
+use Rattle.pts_infer_cost.specs.Inference.{inferred, sort_tested, fitted}
+use Rattle.pts_infer_cost.proofs.Exact.{inference_within, inference_exact, sort_test_within, sort_test_exact, fit_within, fit_exact}
 use Rattle.pts_grow.specs.Keeps.{Keeps, IsNode}
 use Rattle.pts_grow.proofs.Grow.{tree_stays, told_stays}
-use Rattle.pts_judge.specs.declared.judged.Judged.{Judged}
-use Rattle.pts_judge.specs.Judges.{Judges}
+use Rattle.pts_grow.specs.declared.judged.Judged.{Judged}
+use Rattle.pts_grow.specs.Judges.{Judges}
 use Rattle.pts_reduce.specs.Chain.{entries_of}
 use Rattle.pts_infer.specs.declared.fault.Fault.{Fault}
 use Rattle.pts_infer.specs.declared.fault.Fault.TheVariants.{Spent, Deep, Memory, Flawed}

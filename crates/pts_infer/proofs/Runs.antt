@@ -5,12 +5,12 @@ use Rattle.pts_names.specs.Name.{Name}
 use Rattle.pts_terms.specs.Tree.{Bare, bare, let_in, pi, named_pi, named_let}
 use Rattle.pts_record.specs.Table.{Tables, named_at, bare_at}
 use Rattle.pts_record.specs.Said.{scope_of}
-use Rattle.pts_costs.specs.Run.{Run}
-use Rattle.pts_typing.specs.Typing.{Flaw, FitFlaw}
+use Rattle.pts_reduce_cost.specs.Run.{Run}
+use Rattle.pts_infer_cost.specs.Typing.{Flaw, FitFlaw}
 use Rattle.pts_grow.specs.Keeps.{Keeps}
 use Rattle.pts_grow.proofs.Grow.{stays, bare_stays, told_stays}
-use Rattle.pts_judge.proofs.Nodes.{still_judges}
-use Rattle.pts_judge.proofs.Plain.{plain}
+use Rattle.pts_grow.proofs.Judgements.{still_judges}
+use Rattle.pts_grow.proofs.Plain.{plain}
 use Rattle.pts_reduce.specs.Chain.{entries_of}
 use Rattle.pts_infer.specs.declared.fault.Fault.{Fault}
 use Rattle.pts_infer.specs.declared.fault.Misfit.{Misfit}

@@ -4,13 +4,13 @@ use Rattle.pts_terms.specs.Tree.{Named, sort, const, var, app, named_lam, named_
 use Rattle.pts_ctx.specs.System.{Specification, axiom_of}
 use Rattle.pts_record.specs.declared.shape.Shape.{Shape}
 use Rattle.pts_record.specs.Table.{Tables}
-use Rattle.pts_costs.specs.Costs.{Globals, Entries}
-use Rattle.pts_costs.specs.Run.{ends, fails}
-use Rattle.pts_costs.specs.Work.{reduced}
-use Rattle.pts_typing.specs.Typing.{here, as_sort, not_a_sort}
-use Rattle.pts_typing.specs.Inference.{Typer, sort_tested, sorted}
-use Rattle.pts_typing.proofs.ByParts.{sorted_is}
-use Rattle.pts_typing.proofs.Tests.{sort_at_once, sort_large, sort_unreduced, sort_reached, sort_without_axiom, sort_missing, sorted_goes_on}
+use Rattle.pts_reduce_cost.specs.Costs.{Globals, Entries}
+use Rattle.pts_reduce_cost.specs.Run.{ends, fails}
+use Rattle.pts_reduce_cost.specs.Work.{reduced}
+use Rattle.pts_infer_cost.specs.Typing.{here, as_sort, not_a_sort}
+use Rattle.pts_infer_cost.specs.Inference.{Typer, sort_tested, sorted}
+use Rattle.pts_infer_cost.proofs.ByParts.{sorted_is}
+use Rattle.pts_infer_cost.proofs.Tests.{sort_at_once, sort_large, sort_unreduced, sort_reached, sort_without_axiom, sort_missing, sorted_goes_on}
 use Rattle.pts_grow.specs.Keeps.{Keeps}
 use Rattle.pts_reduce.specs.Chain.{entries_of}
 use Rattle.pts_infer.specs.declared.fault.Fault.{Fault}

@@ -6,9 +6,9 @@ use Rattle.pts_terms.specs.Limits.{within}
 use Rattle.pts_terms.specs.Seen.{named}
 use Rattle.pts_ctx.specs.System.{Specification}
 use Rattle.pts_record.specs.declared.shape.Shape.{Shape}
-use Rattle.pts_costs.specs.Costs.{Globals}
-use Rattle.pts_costs.specs.Laws.{WithinBudget, AboveBudget}
-use Rattle.pts_typing.specs.Typing.{Infers, Sorts, Fits, inference_nesting, Stop, moved, Kind, not_a_sort, not_product, no_rule, no_axiom, not_convertible, Flaw, FitFlaw, wanted, judged, by_flaw, by_limits, Outcome, comes, stops}
+use Rattle.pts_reduce_cost.specs.Costs.{Globals}
+use Rattle.pts_reduce_cost.specs.Laws.{WithinBudget, AboveBudget}
+use Rattle.pts_infer_cost.specs.Typing.{Infers, Sorts, Fits, inference_nesting, Stop, moved, Kind, not_a_sort, not_product, no_rule, no_axiom, not_convertible, Flaw, FitFlaw, wanted, judged, by_flaw, by_limits, Outcome, comes, stops}
 use Rattle.pts_infer.specs.declared.answer.FlawKind.{FlawKind}
 use Rattle.pts_infer.specs.declared.answer.FlawKind.TheVariants as kind
 use Rattle.pts_infer.specs.declared.answer.Flaw as answer

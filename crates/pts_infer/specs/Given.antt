@@ -3,17 +3,17 @@ use Rattle.std.specs.Prelude.{◌≡◌, ◌<◌, ℕ, List, [], reverse, length
 use Rattle.pts_terms.specs.Tree.{Named, pi}
 use Rattle.pts_record.specs.declared.shape.Shape.{Shape}
 use Rattle.pts_record.specs.Table.{Tables, named_at, bare_at}
-use Rattle.pts_costs.specs.Run.{Run, ends, fails, deep, spent}
-use Rattle.pts_typing.specs.Typing.{Kind, not_a_sort, not_product, no_rule, no_axiom, not_convertible, Flaw, FitFlaw, wanted, judged}
+use Rattle.pts_reduce_cost.specs.Run.{Run, ends, fails, deep, spent}
+use Rattle.pts_infer_cost.specs.Typing.{Kind, not_a_sort, not_product, no_rule, no_axiom, not_convertible, Flaw, FitFlaw, wanted, judged}
 use Rattle.pts_grow.specs.declared.fault.TermFault.{TermFault}
 use Rattle.pts_grow.specs.declared.fault.TermFault.TheVariants as made
-use Rattle.pts_judge.specs.declared.judged.Judged.{Judged}
+use Rattle.pts_grow.specs.declared.judged.Judged.{Judged}
 use Rattle.pts_terms.specs.Limits.{within}
 use Rattle.pts_ctx.specs.System.{Specification}
 use Rattle.pts_ctx.specs.Front.{Front}
 use Rattle.pts_rules.specs.Valid.{IsValid}
 use Rattle.pts_reduce.specs.Chain.{entries_of}
-use Rattle.pts_judge.specs.Judges.{Judges, IsTyped}
+use Rattle.pts_grow.specs.Judges.{Judges, IsTyped}
 use Rattle.pts_infer.specs.declared.fault.What.{What}
 use Rattle.pts_infer.specs.declared.fault.What.TheVariants.{NotASort, NotProduct, NoRule, NoAxiom, NotConvertible}
 use Rattle.pts_infer.specs.declared.fault.Found.{Found}

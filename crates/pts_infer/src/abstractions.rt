@@ -7,10 +7,10 @@ ghost use Rattle.pts_ctx.specs.Front.{Front, bare_front};
 ghost use Rattle.pts_record.specs.Table.{bare_at, named_at};
 ghost use Rattle.pts_rules.specs.Meter.{left};
 ghost use Rattle.pts_rules.specs.Valid.{IsValid};
-ghost use Rattle.pts_typing.specs.Typing.{by_rule, made};
-ghost use Rattle.pts_typing.specs.Inference.{abstraction, body_inferred, body_sorted, gives, inferred, product, sorted};
+ghost use Rattle.pts_infer_cost.specs.Typing.{by_rule, made};
+ghost use Rattle.pts_infer_cost.specs.Inference.{abstraction, body_inferred, body_sorted, gives, inferred, product, sorted};
 ghost use Rattle.pts_grow.specs.Keeps.{Keeps};
-ghost use Rattle.pts_judge.specs.Judges.{IsAssumeOf, IsTyped, Judges};
+ghost use Rattle.pts_grow.specs.Judges.{IsAssumeOf, IsTyped, Judges};
 ghost use Rattle.pts_reduce.specs.Given.{Later};
 ghost use Rattle.pts_reduce.specs.Chain.{entries_of};
 ghost use Rattle.pts_infer.specs.Given.{Gives, type_of};
@@ -21,8 +21,7 @@ use crate::judgements::Sorted;
 use crate::products::judge_product;
 use crate::told::{flaw_here, into_part, under_binder, unsorted_body};
 use pts_ctx::{Context, System};
-use pts_grow::add_line;
-use pts_judge::{Judged, add_assume, add_lam};
+use pts_grow::{Judged, add_assume, add_lam, add_line};
 use pts_names::Name;
 use pts_record::{Record, Shape};
 use pts_rules::Meter;
@@ -31,7 +30,7 @@ use std::alloc::AllocError;
 
 // An abstraction: its domain first.
 #[cycle(inferring)]
-#[tactic(auto, using(pts_grow::proofs::Grow::keeping, pts_judge::proofs::Nodes::still, pts_reduce::proofs::Paid::later, crate::proofs::Atoms::sorts, crate::proofs::Binding::abstracted))]
+#[tactic(auto, using(pts_grow::proofs::Grow::keeping, pts_grow::proofs::Judgements::still, pts_reduce::proofs::Paid::later, crate::proofs::Atoms::sorts, crate::proofs::Binding::abstracted))]
 pub(crate) fn infer_abstraction(
     system: &System,
     front: &Context,
@@ -67,7 +66,7 @@ pub(crate) fn infer_abstraction(
 
 // The context in which the domain is assumed.
 #[cycle(inferring)]
-#[tactic(auto, using(pts_grow::proofs::Grow::keeping, pts_judge::proofs::Nodes::still, pts_reduce::proofs::Paid::later, crate::proofs::Atoms::sorts, crate::proofs::Binding::opened))]
+#[tactic(auto, using(pts_grow::proofs::Grow::keeping, pts_grow::proofs::Judgements::still, pts_reduce::proofs::Paid::later, crate::proofs::Atoms::sorts, crate::proofs::Binding::opened))]
 fn abstract_over(
     system: &System,
     front: &Context,
@@ -102,7 +101,7 @@ fn abstract_over(
 
 // The body.
 #[cycle(inferring)]
-#[tactic(auto, using(pts_grow::proofs::Grow::keeping, pts_judge::proofs::Nodes::still, pts_reduce::proofs::Paid::later, crate::proofs::Atoms::sorts, crate::proofs::Binding::inside))]
+#[tactic(auto, using(pts_grow::proofs::Grow::keeping, pts_grow::proofs::Judgements::still, pts_reduce::proofs::Paid::later, crate::proofs::Atoms::sorts, crate::proofs::Binding::inside))]
 fn abstract_inside(
     system: &System,
     front: &Context,
@@ -141,7 +140,7 @@ fn abstract_inside(
 
 // The sort of the type of the body.
 #[cycle(inferring)]
-#[tactic(auto, using(pts_grow::proofs::Grow::keeping, pts_judge::proofs::Nodes::still, pts_reduce::proofs::Paid::later, crate::proofs::Atoms::sorts, crate::proofs::Binding::sorted_body))]
+#[tactic(auto, using(pts_grow::proofs::Grow::keeping, pts_grow::proofs::Judgements::still, pts_reduce::proofs::Paid::later, crate::proofs::Atoms::sorts, crate::proofs::Binding::sorted_body))]
 fn abstract_body(
     system: &System,
     front: &Context,
@@ -177,7 +176,7 @@ fn abstract_body(
 }
 
 // The rule for the sorts of the domain and of the type of the body.
-#[tactic(auto, using(pts_grow::proofs::Grow::keeping, pts_judge::proofs::Nodes::still, pts_reduce::proofs::Paid::later, crate::proofs::Atoms::sorts, pts_typing::proofs::Ends::ends_of_rules, crate::proofs::Outwards::found))]
+#[tactic(auto, using(pts_grow::proofs::Grow::keeping, pts_grow::proofs::Judgements::still, pts_reduce::proofs::Paid::later, crate::proofs::Atoms::sorts, pts_infer_cost::proofs::Ends::ends_of_rules, crate::proofs::Outwards::found))]
 fn abstract_ruled(
     system: &System,
     proof: &mut Record,
@@ -219,7 +218,7 @@ fn abstract_ruled(
 }
 
 // The abstraction with a product that has a sort.
-#[tactic(auto, using(pts_grow::proofs::Grow::keeping, pts_judge::proofs::Nodes::still, pts_reduce::proofs::Paid::later, crate::proofs::Atoms::sorts, pts_judge::proofs::Plain::plainly))]
+#[tactic(auto, using(pts_grow::proofs::Grow::keeping, pts_grow::proofs::Judgements::still, pts_reduce::proofs::Paid::later, crate::proofs::Atoms::sorts, pts_grow::proofs::Plain::plainly))]
 fn abstract_made(
     system: &System,
     proof: &mut Record,

@@ -6,10 +6,10 @@ ghost use Rattle.pts_ctx.specs.Front.{bare_front};
 ghost use Rattle.pts_record.specs.Table.{bare_at, named_at};
 ghost use Rattle.pts_rules.specs.Meter.{left};
 ghost use Rattle.pts_rules.specs.Valid.{IsValid};
-ghost use Rattle.pts_typing.specs.Typing.{made};
-ghost use Rattle.pts_typing.specs.Inference.{application, argument_fitted, argument_inferred, function_typed, gives, inferred};
+ghost use Rattle.pts_infer_cost.specs.Typing.{made};
+ghost use Rattle.pts_infer_cost.specs.Inference.{application, argument_fitted, argument_inferred, function_typed, gives, inferred};
 ghost use Rattle.pts_grow.specs.Keeps.{Keeps, StaysValid};
-ghost use Rattle.pts_judge.specs.Judges.{IsTyped, Judges};
+ghost use Rattle.pts_grow.specs.Judges.{IsTyped, Judges};
 ghost use Rattle.pts_reduce.specs.Given.{Later};
 ghost use Rattle.pts_reduce.specs.Chain.{entries_of};
 ghost use Rattle.pts_infer.specs.Given.{Gives, IsFunction, type_of};
@@ -21,14 +21,13 @@ use crate::inferring::infer_in;
 use crate::judgements::Function;
 use crate::told::{for_argument, into_part};
 use pts_ctx::{Context, System};
-use pts_grow::put;
-use pts_judge::{Judged, add_app};
+use pts_grow::{Judged, add_app, put};
 use pts_record::Record;
 use pts_rules::Meter;
 
 // An application: its function first.
 #[cycle(inferring)]
-#[tactic(auto, using(pts_grow::proofs::Grow::keeping, pts_judge::proofs::Nodes::still, pts_reduce::proofs::Paid::later, crate::proofs::Atoms::sorts, crate::proofs::Applying::function))]
+#[tactic(auto, using(pts_grow::proofs::Grow::keeping, pts_grow::proofs::Judgements::still, pts_reduce::proofs::Paid::later, crate::proofs::Atoms::sorts, crate::proofs::Applying::function))]
 pub(crate) fn infer_application(
     system: &System,
     front: &Context,
@@ -65,7 +64,7 @@ pub(crate) fn infer_application(
 
 // The product that the type of the function is.
 #[cycle(inferring)]
-#[tactic(auto, using(pts_grow::proofs::Grow::keeping, pts_judge::proofs::Nodes::still, pts_reduce::proofs::Paid::later, crate::proofs::Atoms::sorts, crate::proofs::Applying::typed))]
+#[tactic(auto, using(pts_grow::proofs::Grow::keeping, pts_grow::proofs::Judgements::still, pts_reduce::proofs::Paid::later, crate::proofs::Atoms::sorts, crate::proofs::Applying::typed))]
 fn apply_judged(
     system: &System,
     front: &Context,
@@ -102,7 +101,7 @@ fn apply_judged(
 
 // The argument.
 #[cycle(inferring)]
-#[tactic(auto, using(pts_grow::proofs::Grow::keeping, pts_judge::proofs::Nodes::still, pts_reduce::proofs::Paid::later, crate::proofs::Atoms::sorts, crate::proofs::Applying::argument))]
+#[tactic(auto, using(pts_grow::proofs::Grow::keeping, pts_grow::proofs::Judgements::still, pts_reduce::proofs::Paid::later, crate::proofs::Atoms::sorts, crate::proofs::Applying::argument))]
 fn apply_function(
     system: &System,
     front: &Context,
@@ -139,7 +138,7 @@ fn apply_function(
 
 // The fit of the argument to the domain.
 #[cycle(inferring)]
-#[tactic(auto, using(pts_grow::proofs::Grow::keeping, pts_judge::proofs::Nodes::still, pts_reduce::proofs::Paid::later, crate::proofs::Atoms::sorts, crate::proofs::Applying::fitted_argument))]
+#[tactic(auto, using(pts_grow::proofs::Grow::keeping, pts_grow::proofs::Judgements::still, pts_reduce::proofs::Paid::later, crate::proofs::Atoms::sorts, crate::proofs::Applying::fitted_argument))]
 fn apply_fitted(
     system: &System,
     front: &Context,
@@ -180,7 +179,7 @@ fn apply_fitted(
 }
 
 // The application of a function to an argument that has its domain as its type.
-#[tactic(auto, using(pts_grow::proofs::Grow::keeping, pts_judge::proofs::Nodes::still, pts_reduce::proofs::Paid::later, crate::proofs::Atoms::sorts, pts_judge::proofs::Plain::plainly, pts_typing::proofs::Ends::ends_of_rules))]
+#[tactic(auto, using(pts_grow::proofs::Grow::keeping, pts_grow::proofs::Judgements::still, pts_reduce::proofs::Paid::later, crate::proofs::Atoms::sorts, pts_grow::proofs::Plain::plainly, pts_infer_cost::proofs::Ends::ends_of_rules))]
 fn apply_made(
     proof: &mut Record,
     ctx: usize,

@@ -4,9 +4,9 @@ ghost use Rattle.std.specs.Prelude.{◌≡◌, ◌<◌, length, suc, IfOk};
 ghost use Rattle.pts_ctx.specs.System.{Specification};
 ghost use Rattle.pts_ctx.specs.Front.{Front};
 ghost use Rattle.pts_grow.specs.Keeps.{Keeps, StaysValid};
-ghost use Rattle.pts_judge.specs.Judges.{IsTyped, Judges};
+ghost use Rattle.pts_grow.specs.Judges.{IsTyped, Judges};
 
-use pts_judge::Judged;
+use pts_grow::Judged;
 use pts_record::{Form, Node, Record};
 use std::alloc::AllocError;
 
@@ -28,7 +28,7 @@ pub(crate) fn close(proof: &mut Record, ctx: usize, judged: Judged) -> Result<us
 }
 
 // A judgement again, as the last node.
-#[tactic(auto, using(pts_grow::proofs::Grow::pushed, pts_judge::proofs::Nodes::new_judges, crate::proofs::Conclusions::last_node))]
+#[tactic(auto, using(pts_grow::proofs::Grow::pushed, pts_grow::proofs::Judgements::new_judges, crate::proofs::Conclusions::last_node))]
 fn repeat(proof: &mut Record, ctx: usize, judged: Judged) -> Result<usize, AllocError>
     requires ctx { ctx < length proof.old.nodes }
     requires typed { IsTyped proof.old ctx }

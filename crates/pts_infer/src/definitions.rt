@@ -6,10 +6,10 @@ ghost use Rattle.pts_ctx.specs.Front.{bare_front};
 ghost use Rattle.pts_record.specs.Table.{bare_at, named_at};
 ghost use Rattle.pts_rules.specs.Meter.{left};
 ghost use Rattle.pts_rules.specs.Valid.{IsValid};
-ghost use Rattle.pts_typing.specs.Typing.{as_sort, made};
-ghost use Rattle.pts_typing.specs.Inference.{definition_body, definition_fitted, definition_type, gives, inferred, local_definition, sorted};
+ghost use Rattle.pts_infer_cost.specs.Typing.{as_sort, made};
+ghost use Rattle.pts_infer_cost.specs.Inference.{definition_body, definition_fitted, definition_type, gives, inferred, local_definition, sorted};
 ghost use Rattle.pts_grow.specs.Keeps.{Keeps, StaysValid};
-ghost use Rattle.pts_judge.specs.Judges.{IsDefineOf, IsTyped, Judges};
+ghost use Rattle.pts_grow.specs.Judges.{IsDefineOf, IsTyped, Judges};
 ghost use Rattle.pts_reduce.specs.Given.{Later};
 ghost use Rattle.pts_reduce.specs.Chain.{entries_of};
 ghost use Rattle.pts_infer.specs.Given.{Gives, type_of};
@@ -21,8 +21,7 @@ use crate::judgements::Sorted;
 use crate::leaves::sort_of;
 use crate::told::{for_definition, into_part, under_binder, unsorted_body};
 use pts_ctx::{Context, System};
-use pts_grow::add_line;
-use pts_judge::{Judged, add_define, add_let, add_letsort};
+use pts_grow::{Judged, add_define, add_let, add_letsort, add_line};
 use pts_names::Name;
 use pts_record::{Record, Shape};
 use pts_rules::Meter;
@@ -30,7 +29,7 @@ use std::alloc::AllocError;
 
 // A local definition: what is defined first.
 #[cycle(inferring)]
-#[tactic(auto, using(pts_grow::proofs::Grow::keeping, pts_judge::proofs::Nodes::still, pts_reduce::proofs::Paid::later, crate::proofs::Atoms::sorts, crate::proofs::Defining::value))]
+#[tactic(auto, using(pts_grow::proofs::Grow::keeping, pts_grow::proofs::Judgements::still, pts_reduce::proofs::Paid::later, crate::proofs::Atoms::sorts, crate::proofs::Defining::value))]
 pub(crate) fn infer_definition(
     system: &System,
     front: &Context,
@@ -68,7 +67,7 @@ pub(crate) fn infer_definition(
 
 // Its fit to the type that is given.
 #[cycle(inferring)]
-#[tactic(auto, using(pts_grow::proofs::Grow::keeping, pts_judge::proofs::Nodes::still, pts_reduce::proofs::Paid::later, crate::proofs::Atoms::sorts, crate::proofs::Defining::fitted_value))]
+#[tactic(auto, using(pts_grow::proofs::Grow::keeping, pts_grow::proofs::Judgements::still, pts_reduce::proofs::Paid::later, crate::proofs::Atoms::sorts, crate::proofs::Defining::fitted_value))]
 fn define_fitted(
     system: &System,
     front: &Context,
@@ -106,7 +105,7 @@ fn define_fitted(
 
 // The context with the definition.
 #[cycle(inferring)]
-#[tactic(auto, using(pts_grow::proofs::Grow::keeping, pts_judge::proofs::Nodes::still, pts_reduce::proofs::Paid::later, crate::proofs::Atoms::sorts, crate::proofs::Defining::opened))]
+#[tactic(auto, using(pts_grow::proofs::Grow::keeping, pts_grow::proofs::Judgements::still, pts_reduce::proofs::Paid::later, crate::proofs::Atoms::sorts, crate::proofs::Defining::opened))]
 fn define_over(
     system: &System,
     front: &Context,
@@ -140,7 +139,7 @@ fn define_over(
 
 // The body.
 #[cycle(inferring)]
-#[tactic(auto, using(pts_grow::proofs::Grow::keeping, pts_judge::proofs::Nodes::still, pts_reduce::proofs::Paid::later, crate::proofs::Atoms::sorts, crate::proofs::Defining::inside))]
+#[tactic(auto, using(pts_grow::proofs::Grow::keeping, pts_grow::proofs::Judgements::still, pts_reduce::proofs::Paid::later, crate::proofs::Atoms::sorts, crate::proofs::Defining::inside))]
 fn define_inside(
     system: &System,
     front: &Context,
@@ -178,7 +177,7 @@ fn define_inside(
 
 // The type: that of the body where it is a sort.
 #[cycle(inferring)]
-#[tactic(auto, using(pts_grow::proofs::Grow::keeping, pts_judge::proofs::Nodes::still, pts_reduce::proofs::Paid::later, crate::proofs::Atoms::sorts, pts_judge::proofs::Plain::plainly, crate::proofs::Defining::at_once))]
+#[tactic(auto, using(pts_grow::proofs::Grow::keeping, pts_grow::proofs::Judgements::still, pts_reduce::proofs::Paid::later, crate::proofs::Atoms::sorts, pts_grow::proofs::Plain::plainly, crate::proofs::Defining::at_once))]
 fn define_typed(
     system: &System,
     front: &Context,
@@ -218,7 +217,7 @@ fn define_typed(
 
 // The sort of the type of the body.
 #[cycle(inferring)]
-#[tactic(auto, using(pts_grow::proofs::Grow::keeping, pts_judge::proofs::Nodes::still, pts_reduce::proofs::Paid::later, crate::proofs::Atoms::sorts, crate::proofs::Defining::sorted_body))]
+#[tactic(auto, using(pts_grow::proofs::Grow::keeping, pts_grow::proofs::Judgements::still, pts_reduce::proofs::Paid::later, crate::proofs::Atoms::sorts, crate::proofs::Defining::sorted_body))]
 fn define_sorted(
     system: &System,
     front: &Context,
@@ -254,7 +253,7 @@ fn define_sorted(
 }
 
 // The type that is the local definition of the body's type.
-#[tactic(auto, using(pts_grow::proofs::Grow::keeping, pts_judge::proofs::Nodes::still, pts_reduce::proofs::Paid::later, crate::proofs::Atoms::sorts, pts_judge::proofs::Plain::plainly, pts_typing::proofs::Ends::ends_of_rules))]
+#[tactic(auto, using(pts_grow::proofs::Grow::keeping, pts_grow::proofs::Judgements::still, pts_reduce::proofs::Paid::later, crate::proofs::Atoms::sorts, pts_grow::proofs::Plain::plainly, pts_infer_cost::proofs::Ends::ends_of_rules))]
 fn define_made(
     proof: &mut Record,
     ctx: usize,
@@ -288,7 +287,7 @@ fn define_made(
 }
 
 // The local definition with a type that has a sort.
-#[tactic(auto, using(pts_grow::proofs::Grow::keeping, pts_judge::proofs::Nodes::still, pts_reduce::proofs::Paid::later, crate::proofs::Atoms::sorts, pts_judge::proofs::Plain::plainly))]
+#[tactic(auto, using(pts_grow::proofs::Grow::keeping, pts_grow::proofs::Judgements::still, pts_reduce::proofs::Paid::later, crate::proofs::Atoms::sorts, pts_grow::proofs::Plain::plainly))]
 fn define_judged(
     proof: &mut Record,
     ctx: usize,

@@ -7,9 +7,9 @@ ghost use Rattle.pts_ctx.specs.Front.{bare_front};
 ghost use Rattle.pts_record.specs.Table.{bare_at, named_at};
 ghost use Rattle.pts_rules.specs.Meter.{left};
 ghost use Rattle.pts_rules.specs.Valid.{IsValid};
-ghost use Rattle.pts_typing.specs.Inference.{fit_tested, fitted, inferred, sorted, types_compared};
+ghost use Rattle.pts_infer_cost.specs.Inference.{fit_tested, fitted, inferred, sorted, types_compared};
 ghost use Rattle.pts_grow.specs.Keeps.{Keeps, StaysValid};
-ghost use Rattle.pts_judge.specs.Judges.{IsTyped, Judges};
+ghost use Rattle.pts_grow.specs.Judges.{IsTyped, Judges};
 ghost use Rattle.pts_reduce.specs.Given.{Later};
 ghost use Rattle.pts_reduce.specs.Chain.{entries_of};
 ghost use Rattle.pts_infer.specs.Given.{Fits};
@@ -21,14 +21,14 @@ use crate::pay::pay;
 use crate::reduced::compare_types;
 use crate::told::for_wanted;
 use pts_ctx::{Context, System};
-use pts_judge::{Judged, add_again, add_conv};
+use pts_grow::{Judged, add_again, add_conv};
 use pts_record::Record;
 use pts_rules::Meter;
 use std::alloc::AllocError;
 
 // The judgement with the wanted type, which is inferred where it is another.
 #[cycle(inferring)]
-#[tactic(auto, using(pts_grow::proofs::Grow::keeping, pts_judge::proofs::Nodes::still, pts_reduce::proofs::Paid::later, crate::proofs::Atoms::sorts, pts_typing::proofs::Tests::fits))]
+#[tactic(auto, using(pts_grow::proofs::Grow::keeping, pts_grow::proofs::Judgements::still, pts_reduce::proofs::Paid::later, crate::proofs::Atoms::sorts, pts_infer_cost::proofs::Tests::fits))]
 pub(crate) fn fit_in(
     system: &System,
     front: &Context,
@@ -60,7 +60,7 @@ pub(crate) fn fit_in(
 }
 
 // The judgement with an equal type, which may have other printed names.
-#[tactic(auto, using(pts_grow::proofs::Grow::keeping, pts_judge::proofs::Nodes::still, pts_reduce::proofs::Paid::later, crate::proofs::Atoms::sorts))]
+#[tactic(auto, using(pts_grow::proofs::Grow::keeping, pts_grow::proofs::Judgements::still, pts_reduce::proofs::Paid::later, crate::proofs::Atoms::sorts))]
 fn fit_equal(
     proof: &mut Record,
     ctx: usize,
@@ -85,7 +85,7 @@ fn fit_equal(
 
 // The judgement with a type that is not equal to its own.
 #[cycle(inferring)]
-#[tactic(auto, using(pts_grow::proofs::Grow::keeping, pts_judge::proofs::Nodes::still, pts_reduce::proofs::Paid::later, crate::proofs::Atoms::sorts, crate::proofs::Fitting::tested))]
+#[tactic(auto, using(pts_grow::proofs::Grow::keeping, pts_grow::proofs::Judgements::still, pts_reduce::proofs::Paid::later, crate::proofs::Atoms::sorts, crate::proofs::Fitting::tested))]
 fn fit_other(
     system: &System,
     front: &Context,
@@ -114,7 +114,7 @@ fn fit_other(
 }
 
 // The judgement with a type that has a sort.
-#[tactic(auto, using(pts_grow::proofs::Grow::keeping, pts_judge::proofs::Nodes::still, pts_reduce::proofs::Paid::later, crate::proofs::Atoms::sorts, pts_judge::proofs::Plain::plainly))]
+#[tactic(auto, using(pts_grow::proofs::Grow::keeping, pts_grow::proofs::Judgements::still, pts_reduce::proofs::Paid::later, crate::proofs::Atoms::sorts, pts_grow::proofs::Plain::plainly))]
 fn fit_sorted(
     front: &Context,
     proof: &mut Record,

@@ -7,10 +7,10 @@ ghost use Rattle.pts_ctx.specs.Front.{bare_front};
 ghost use Rattle.pts_record.specs.Table.{bare_at, named_at};
 ghost use Rattle.pts_rules.specs.Meter.{left};
 ghost use Rattle.pts_rules.specs.Valid.{IsValid};
-ghost use Rattle.pts_typing.specs.Typing.{as_product};
-ghost use Rattle.pts_typing.specs.Inference.{inferred, product, product_found, sorted};
+ghost use Rattle.pts_infer_cost.specs.Typing.{as_product};
+ghost use Rattle.pts_infer_cost.specs.Inference.{inferred, product, product_found, sorted};
 ghost use Rattle.pts_grow.specs.Keeps.{Compares, Keeps, StaysValid};
-ghost use Rattle.pts_judge.specs.Judges.{IsTyped, Judges};
+ghost use Rattle.pts_grow.specs.Judges.{IsTyped, Judges};
 ghost use Rattle.pts_reduce.specs.Given.{Later};
 ghost use Rattle.pts_reduce.specs.Chain.{entries_of};
 ghost use Rattle.pts_infer.specs.Given.{Gives, IsFunction, product_of};
@@ -21,8 +21,7 @@ use crate::judgements::{Function, Sorted};
 use crate::reduced::form_of;
 use crate::told::{flaw_here, no_product};
 use pts_ctx::{Context, System};
-use pts_grow::Compared;
-use pts_judge::{Judged, add_conv};
+use pts_grow::{Compared, Judged, add_conv};
 use pts_record::{Record, Shape};
 use pts_reduce::Whnf;
 use pts_rules::Meter;
@@ -42,7 +41,7 @@ fn product_parts(proof: &Record, term: usize) -> Option<(usize, usize)>
 
 // The function with the product that its type is, at once or by its form.
 #[cycle(inferring)]
-#[tactic(auto, using(pts_grow::proofs::Grow::keeping, pts_judge::proofs::Nodes::still, pts_reduce::proofs::Paid::later, crate::proofs::Atoms::sorts, crate::proofs::Domains::at_once))]
+#[tactic(auto, using(pts_grow::proofs::Grow::keeping, pts_grow::proofs::Judgements::still, pts_reduce::proofs::Paid::later, crate::proofs::Atoms::sorts, crate::proofs::Domains::at_once))]
 pub(crate) fn function_in(
     system: &System,
     front: &Context,
@@ -74,7 +73,7 @@ pub(crate) fn function_in(
 
 // The same of a type that is no product as it stands.
 #[cycle(inferring)]
-#[tactic(auto, using(pts_grow::proofs::Grow::keeping, pts_judge::proofs::Nodes::still, pts_reduce::proofs::Paid::later, crate::proofs::Atoms::sorts, crate::proofs::Domains::by_forms, crate::proofs::Domains::reached, crate::proofs::Outwards::found))]
+#[tactic(auto, using(pts_grow::proofs::Grow::keeping, pts_grow::proofs::Judgements::still, pts_reduce::proofs::Paid::later, crate::proofs::Atoms::sorts, crate::proofs::Domains::by_forms, crate::proofs::Domains::reached, crate::proofs::Outwards::found))]
 fn function_by_form(
     system: &System,
     front: &Context,
@@ -106,7 +105,7 @@ fn function_by_form(
 }
 
 // The function with the product to which its type reduces.
-#[tactic(auto, using(pts_grow::proofs::Grow::keeping, pts_judge::proofs::Nodes::still, pts_reduce::proofs::Paid::later, crate::proofs::Atoms::sorts, pts_judge::proofs::Plain::plainly, pts_grow::proofs::Instances::still_compares))]
+#[tactic(auto, using(pts_grow::proofs::Grow::keeping, pts_grow::proofs::Judgements::still, pts_reduce::proofs::Paid::later, crate::proofs::Atoms::sorts, pts_grow::proofs::Plain::plainly, pts_grow::proofs::Instances::still_compares))]
 fn function_reached(
     proof: &mut Record,
     ctx: usize,

@@ -6,9 +6,9 @@ ghost use Rattle.pts_ctx.specs.Front.{bare_front};
 ghost use Rattle.pts_record.specs.Table.{named_at};
 ghost use Rattle.pts_rules.specs.Meter.{left};
 ghost use Rattle.pts_rules.specs.Valid.{IsValid};
-ghost use Rattle.pts_typing.specs.Inference.{inferred, sorted, typed_by_form};
+ghost use Rattle.pts_infer_cost.specs.Inference.{inferred, sorted, typed_by_form};
 ghost use Rattle.pts_grow.specs.Keeps.{Keeps};
-ghost use Rattle.pts_judge.specs.Judges.{IsTyped, Judges};
+ghost use Rattle.pts_grow.specs.Judges.{IsTyped, Judges};
 ghost use Rattle.pts_reduce.specs.Given.{Later};
 ghost use Rattle.pts_reduce.specs.Chain.{entries_of};
 ghost use Rattle.pts_infer.specs.Given.{Gives, type_of};
@@ -23,14 +23,14 @@ use crate::pay::pay;
 use crate::products::infer_product;
 use crate::sort_tests::sort_test_in;
 use pts_ctx::{Context, System};
-use pts_judge::Judged;
+use pts_grow::Judged;
 use pts_record::{Record, Shape};
 use pts_rules::Meter;
 use pts_terms::Sort;
 
 // The judgement of a term, in whose inference others may be nested so deep.
 #[cycle(inferring)]
-#[tactic(auto, using(pts_grow::proofs::Grow::keeping, pts_judge::proofs::Nodes::still, pts_reduce::proofs::Paid::later, crate::proofs::Atoms::sorts, pts_typing::proofs::Steps::inferences))]
+#[tactic(auto, using(pts_grow::proofs::Grow::keeping, pts_grow::proofs::Judgements::still, pts_reduce::proofs::Paid::later, crate::proofs::Atoms::sorts, pts_infer_cost::proofs::Steps::inferences))]
 pub(crate) fn infer_in(
     system: &System,
     front: &Context,
@@ -61,7 +61,7 @@ pub(crate) fn infer_in(
 
 // The same behind the unit.
 #[cycle(inferring)]
-#[tactic(auto, using(pts_grow::proofs::Grow::keeping, pts_judge::proofs::Nodes::still, pts_reduce::proofs::Paid::later, crate::proofs::Atoms::sorts, pts_typing::proofs::Steps::forms))]
+#[tactic(auto, using(pts_grow::proofs::Grow::keeping, pts_grow::proofs::Judgements::still, pts_reduce::proofs::Paid::later, crate::proofs::Atoms::sorts, pts_infer_cost::proofs::Steps::forms))]
 fn infer_form(
     system: &System,
     front: &Context,
@@ -124,7 +124,7 @@ fn infer_form(
 
 // The judgement of a term with a sort as its type.
 #[cycle(inferring)]
-#[tactic(auto, using(pts_grow::proofs::Grow::keeping, pts_judge::proofs::Nodes::still, pts_reduce::proofs::Paid::later, crate::proofs::Atoms::sorts, crate::proofs::Sorting::sorts))]
+#[tactic(auto, using(pts_grow::proofs::Grow::keeping, pts_grow::proofs::Judgements::still, pts_reduce::proofs::Paid::later, crate::proofs::Atoms::sorts, crate::proofs::Sorting::sorts))]
 pub(crate) fn sorted_in(
     system: &System,
     front: &Context,

@@ -1,6 +1,6 @@
 // What inner calls answer.
 
-use pts_judge::Judged;
+use pts_grow::Judged;
 use pts_terms::Sort;
 
 // A judgement whose claim is that sort.

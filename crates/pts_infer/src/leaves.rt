@@ -8,10 +8,10 @@ ghost use Rattle.pts_ctx.specs.Front.{Front, bare_front, entry_at, find};
 ghost use Rattle.pts_record.specs.Table.{named_at};
 ghost use Rattle.pts_rules.specs.Meter.{left};
 ghost use Rattle.pts_rules.specs.Valid.{IsValid};
-ghost use Rattle.pts_typing.specs.Typing.{as_sort, by_axiom, type_at};
-ghost use Rattle.pts_typing.specs.Inference.{gives, looked_up, type_of_global};
+ghost use Rattle.pts_infer_cost.specs.Typing.{as_sort, by_axiom, type_at};
+ghost use Rattle.pts_infer_cost.specs.Inference.{gives, looked_up, type_of_global};
 ghost use Rattle.pts_grow.specs.Keeps.{IsTerm, Keeps, StaysValid};
-ghost use Rattle.pts_judge.specs.Judges.{IsTyped, Judges};
+ghost use Rattle.pts_grow.specs.Judges.{IsTyped, Judges};
 ghost use Rattle.pts_reduce.specs.Given.{Later};
 ghost use Rattle.pts_reduce.specs.Chain.{entries_of};
 ghost use Rattle.pts_infer.specs.Given.{Gives, type_of};
@@ -20,8 +20,7 @@ use crate::fault::{Fault, What};
 use crate::pay::drain;
 use crate::told::flaw_here;
 use pts_ctx::{Context, System};
-use pts_grow::{TermFault, add_line, lift, take_in};
-use pts_judge::{Judged, add_const, add_sort, add_var, entry_type};
+use pts_grow::{Judged, TermFault, add_const, add_line, add_sort, add_var, entry_type, lift, take_in};
 use pts_names::Name;
 use pts_record::{Record, Shape};
 use pts_rules::Meter;
@@ -40,7 +39,7 @@ pub(crate) fn sort_of(proof: &Record, term: usize) -> Option<Sort>
 }
 
 // Adds a sort.
-#[tactic(auto, using(pts_grow::proofs::Grow::keeping, pts_judge::proofs::Nodes::still, pts_reduce::proofs::Paid::later, crate::proofs::Atoms::sorts))]
+#[tactic(auto, using(pts_grow::proofs::Grow::keeping, pts_grow::proofs::Judgements::still, pts_reduce::proofs::Paid::later, crate::proofs::Atoms::sorts))]
 pub(crate) fn sort_line(proof: &mut Record, sort: Sort) -> Result<usize, AllocError>
     ensures term { IfOk result (λ n. IsTerm proof.new n (sort_term sort.0)) }
     ensures keeps { Keeps proof.old proof.new }
@@ -55,7 +54,7 @@ pub(crate) fn sort_line(proof: &mut Record, sort: Sort) -> Result<usize, AllocEr
 }
 
 // The judgement of a sort by its axiom.
-#[tactic(auto, using(pts_grow::proofs::Grow::keeping, pts_judge::proofs::Nodes::still, pts_reduce::proofs::Paid::later, crate::proofs::Atoms::sorts, pts_judge::proofs::Plain::plainly))]
+#[tactic(auto, using(pts_grow::proofs::Grow::keeping, pts_grow::proofs::Judgements::still, pts_reduce::proofs::Paid::later, crate::proofs::Atoms::sorts, pts_grow::proofs::Plain::plainly))]
 pub(crate) fn judge_sort(
     system: &System,
     proof: &mut Record,
@@ -80,7 +79,7 @@ pub(crate) fn judge_sort(
 }
 
 // A sort has the sort of its axiom as its type.
-#[tactic(auto, using(pts_grow::proofs::Grow::keeping, pts_judge::proofs::Nodes::still, pts_reduce::proofs::Paid::later, crate::proofs::Atoms::sorts, pts_typing::proofs::Ends::ends_of_rules, crate::proofs::Outwards::found))]
+#[tactic(auto, using(pts_grow::proofs::Grow::keeping, pts_grow::proofs::Judgements::still, pts_reduce::proofs::Paid::later, crate::proofs::Atoms::sorts, pts_infer_cost::proofs::Ends::ends_of_rules, crate::proofs::Outwards::found))]
 pub(crate) fn infer_sort(
     system: &System,
     proof: &mut Record,
@@ -105,7 +104,7 @@ pub(crate) fn infer_sort(
 }
 
 // A constant has the type of its entry.
-#[tactic(auto, using(pts_grow::proofs::Grow::keeping, pts_judge::proofs::Nodes::still, pts_reduce::proofs::Paid::later, crate::proofs::Atoms::sorts, crate::proofs::Atoms::constants, pts_judge::proofs::Plain::plainly))]
+#[tactic(auto, using(pts_grow::proofs::Grow::keeping, pts_grow::proofs::Judgements::still, pts_reduce::proofs::Paid::later, crate::proofs::Atoms::sorts, crate::proofs::Atoms::constants, pts_grow::proofs::Plain::plainly))]
 pub(crate) fn infer_constant(
     front: &Context,
     proof: &mut Record,
@@ -137,7 +136,7 @@ pub(crate) fn infer_constant(
 }
 
 // A variable has the type of its entry, past that entry and those behind it.
-#[tactic(auto, using(pts_grow::proofs::Grow::keeping, pts_judge::proofs::Nodes::still, pts_reduce::proofs::Paid::later, crate::proofs::Atoms::sorts, crate::proofs::Atoms::variables, pts_judge::proofs::Plain::plainly))]
+#[tactic(auto, using(pts_grow::proofs::Grow::keeping, pts_grow::proofs::Judgements::still, pts_reduce::proofs::Paid::later, crate::proofs::Atoms::sorts, crate::proofs::Atoms::variables, pts_grow::proofs::Plain::plainly))]
 pub(crate) fn infer_variable(
     proof: &mut Record,
     ctx: usize,

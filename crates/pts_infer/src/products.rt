@@ -7,10 +7,10 @@ ghost use Rattle.pts_ctx.specs.Front.{Front, bare_front};
 ghost use Rattle.pts_record.specs.Table.{bare_at, named_at};
 ghost use Rattle.pts_rules.specs.Meter.{left};
 ghost use Rattle.pts_rules.specs.Valid.{IsValid};
-ghost use Rattle.pts_typing.specs.Typing.{by_rule, comes};
-ghost use Rattle.pts_typing.specs.Inference.{gives, inferred, product, product_body};
+ghost use Rattle.pts_infer_cost.specs.Typing.{by_rule, comes};
+ghost use Rattle.pts_infer_cost.specs.Inference.{gives, inferred, product, product_body};
 ghost use Rattle.pts_grow.specs.Keeps.{Keeps};
-ghost use Rattle.pts_judge.specs.Judges.{IsAssumeOf, IsTyped, Judges};
+ghost use Rattle.pts_grow.specs.Judges.{IsAssumeOf, IsTyped, Judges};
 ghost use Rattle.pts_reduce.specs.Given.{Later};
 ghost use Rattle.pts_reduce.specs.Chain.{entries_of};
 ghost use Rattle.pts_infer.specs.Given.{Gives, type_of};
@@ -21,7 +21,7 @@ use crate::judgements::Sorted;
 use crate::leaves::sort_line;
 use crate::told::{flaw_here, into_part, under_binder};
 use pts_ctx::{Context, System};
-use pts_judge::{Judged, Product, add_assume, add_pi};
+use pts_grow::{Judged, RuleSorts, add_assume, add_pi};
 use pts_names::Name;
 use pts_record::Record;
 use pts_rules::Meter;
@@ -30,7 +30,7 @@ use std::alloc::AllocError;
 
 // A product: its domain first.
 #[cycle(inferring)]
-#[tactic(auto, using(pts_grow::proofs::Grow::keeping, pts_judge::proofs::Nodes::still, pts_reduce::proofs::Paid::later, crate::proofs::Atoms::sorts, crate::proofs::Binding::domain))]
+#[tactic(auto, using(pts_grow::proofs::Grow::keeping, pts_grow::proofs::Judgements::still, pts_reduce::proofs::Paid::later, crate::proofs::Atoms::sorts, crate::proofs::Binding::domain))]
 pub(crate) fn infer_product(
     system: &System,
     front: &Context,
@@ -66,7 +66,7 @@ pub(crate) fn infer_product(
 
 // The context in which the domain is assumed.
 #[cycle(inferring)]
-#[tactic(auto, using(pts_grow::proofs::Grow::keeping, pts_judge::proofs::Nodes::still, pts_reduce::proofs::Paid::later, crate::proofs::Atoms::sorts, crate::proofs::Binding::opened))]
+#[tactic(auto, using(pts_grow::proofs::Grow::keeping, pts_grow::proofs::Judgements::still, pts_reduce::proofs::Paid::later, crate::proofs::Atoms::sorts, crate::proofs::Binding::opened))]
 fn product_over(
     system: &System,
     front: &Context,
@@ -101,7 +101,7 @@ fn product_over(
 
 // The body.
 #[cycle(inferring)]
-#[tactic(auto, using(pts_grow::proofs::Grow::keeping, pts_judge::proofs::Nodes::still, pts_reduce::proofs::Paid::later, crate::proofs::Atoms::sorts, crate::proofs::Binding::body))]
+#[tactic(auto, using(pts_grow::proofs::Grow::keeping, pts_grow::proofs::Judgements::still, pts_reduce::proofs::Paid::later, crate::proofs::Atoms::sorts, crate::proofs::Binding::body))]
 fn product_inside(
     system: &System,
     front: &Context,
@@ -137,7 +137,7 @@ fn product_inside(
 }
 
 // The product of a domain and a body, by the rule for their sorts.
-#[tactic(auto, using(pts_grow::proofs::Grow::keeping, pts_judge::proofs::Nodes::still, pts_reduce::proofs::Paid::later, crate::proofs::Atoms::sorts, pts_typing::proofs::Ends::ends_of_rules, crate::proofs::Outwards::found))]
+#[tactic(auto, using(pts_grow::proofs::Grow::keeping, pts_grow::proofs::Judgements::still, pts_reduce::proofs::Paid::later, crate::proofs::Atoms::sorts, pts_infer_cost::proofs::Ends::ends_of_rules, crate::proofs::Outwards::found))]
 fn product_made(
     system: &System,
     proof: &mut Record,
@@ -169,7 +169,7 @@ fn product_made(
 }
 
 // The judgement of a product by a rule.
-#[tactic(auto, using(pts_grow::proofs::Grow::keeping, pts_judge::proofs::Nodes::still, pts_reduce::proofs::Paid::later, crate::proofs::Atoms::sorts, pts_judge::proofs::Plain::plainly))]
+#[tactic(auto, using(pts_grow::proofs::Grow::keeping, pts_grow::proofs::Judgements::still, pts_reduce::proofs::Paid::later, crate::proofs::Atoms::sorts, pts_grow::proofs::Plain::plainly))]
 pub(crate) fn judge_product(
     system: &System,
     proof: &mut Record,
@@ -197,7 +197,7 @@ pub(crate) fn judge_product(
     ensures valid { (G : Front) → IsValid system.now G proof.old → IsValid system.now G proof.new }
 {
     let claim = sort_line(proof, product)?;
-    let rule = Product {
+    let rule = RuleSorts {
         domain: domain.sort,
         body: body.sort,
         product,

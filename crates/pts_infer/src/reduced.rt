@@ -6,11 +6,11 @@ ghost use Rattle.pts_ctx.specs.Front.{bare_front};
 ghost use Rattle.pts_record.specs.Table.{named_at};
 ghost use Rattle.pts_rules.specs.Meter.{left};
 ghost use Rattle.pts_rules.specs.Valid.{IsValid};
-ghost use Rattle.pts_costs.specs.Run.{ends};
-ghost use Rattle.pts_costs.specs.Work.{reduced};
-ghost use Rattle.pts_typing.specs.Inference.{types_compared};
+ghost use Rattle.pts_reduce_cost.specs.Run.{ends};
+ghost use Rattle.pts_reduce_cost.specs.Work.{reduced};
+ghost use Rattle.pts_infer_cost.specs.Inference.{types_compared};
 ghost use Rattle.pts_grow.specs.Keeps.{Compares, Keeps};
-ghost use Rattle.pts_judge.specs.Judges.{IsTyped};
+ghost use Rattle.pts_grow.specs.Judges.{IsTyped};
 ghost use Rattle.pts_reduce.specs.Given.{Later};
 ghost use Rattle.pts_reduce.specs.Chain.{entries_of};
 ghost use Rattle.pts_infer.specs.Given.{Fits, PlainlyStops};
@@ -24,7 +24,7 @@ use pts_reduce::{Conversion, ReduceFault, Whnf, convert, whnf};
 use pts_rules::Meter;
 
 // The weak head normal form of a term.
-#[tactic(auto, using(pts_grow::proofs::Grow::keeping, pts_judge::proofs::Nodes::still, pts_reduce::proofs::Paid::later, crate::proofs::Atoms::sorts, crate::proofs::Forms::form_facts))]
+#[tactic(auto, using(pts_grow::proofs::Grow::keeping, pts_grow::proofs::Judgements::still, pts_reduce::proofs::Paid::later, crate::proofs::Atoms::sorts, crate::proofs::Forms::form_facts))]
 pub(crate) fn form_of(
     front: &Context,
     proof: &mut Record,
@@ -51,7 +51,7 @@ pub(crate) fn form_of(
 }
 
 // The comparison of a type with a wanted one.
-#[tactic(auto, using(pts_grow::proofs::Grow::keeping, pts_judge::proofs::Nodes::still, pts_reduce::proofs::Paid::later, crate::proofs::Atoms::sorts, crate::proofs::Forms::test_facts))]
+#[tactic(auto, using(pts_grow::proofs::Grow::keeping, pts_grow::proofs::Judgements::still, pts_reduce::proofs::Paid::later, crate::proofs::Atoms::sorts, crate::proofs::Forms::test_facts))]
 pub(crate) fn compare_types(
     front: &Context,
     proof: &mut Record,

@@ -7,10 +7,10 @@ ghost use Rattle.pts_ctx.specs.Front.{Front, bare_front};
 ghost use Rattle.pts_record.specs.Table.{named_at};
 ghost use Rattle.pts_rules.specs.Meter.{left};
 ghost use Rattle.pts_rules.specs.Valid.{IsValid};
-ghost use Rattle.pts_typing.specs.Typing.{as_sort};
-ghost use Rattle.pts_typing.specs.Inference.{sort_tested};
+ghost use Rattle.pts_infer_cost.specs.Typing.{as_sort};
+ghost use Rattle.pts_infer_cost.specs.Inference.{sort_tested};
 ghost use Rattle.pts_grow.specs.Keeps.{Compares, Keeps};
-ghost use Rattle.pts_judge.specs.Judges.{IsTyped, Judges};
+ghost use Rattle.pts_grow.specs.Judges.{IsTyped, Judges};
 ghost use Rattle.pts_reduce.specs.Given.{Later};
 ghost use Rattle.pts_reduce.specs.Chain.{entries_of};
 ghost use Rattle.pts_infer.specs.Given.{Gives};
@@ -21,8 +21,7 @@ use crate::leaves::{judge_sort, sort_of};
 use crate::reduced::form_of;
 use crate::told::flaw_here;
 use pts_ctx::{Context, System};
-use pts_grow::Compared;
-use pts_judge::{Judged, add_conv};
+use pts_grow::{Compared, Judged, add_conv};
 use pts_record::Record;
 use pts_reduce::Whnf;
 use pts_rules::Meter;
@@ -30,7 +29,7 @@ use pts_terms::Sort;
 use std::alloc::AllocError;
 
 // The judgement with the sort that its type is, at once or by its form.
-#[tactic(auto, using(pts_grow::proofs::Grow::keeping, pts_judge::proofs::Nodes::still, pts_reduce::proofs::Paid::later, crate::proofs::Atoms::sorts, crate::proofs::Sorting::at_once))]
+#[tactic(auto, using(pts_grow::proofs::Grow::keeping, pts_grow::proofs::Judgements::still, pts_reduce::proofs::Paid::later, crate::proofs::Atoms::sorts, crate::proofs::Sorting::at_once))]
 pub(crate) fn sort_test_in(
     system: &System,
     front: &Context,
@@ -57,7 +56,7 @@ pub(crate) fn sort_test_in(
 }
 
 // The same of a type that is no sort as it stands.
-#[tactic(auto, using(pts_grow::proofs::Grow::keeping, pts_judge::proofs::Nodes::still, pts_reduce::proofs::Paid::later, crate::proofs::Atoms::sorts, crate::proofs::Sorting::by_forms, crate::proofs::Outwards::found))]
+#[tactic(auto, using(pts_grow::proofs::Grow::keeping, pts_grow::proofs::Judgements::still, pts_reduce::proofs::Paid::later, crate::proofs::Atoms::sorts, crate::proofs::Sorting::by_forms, crate::proofs::Outwards::found))]
 fn sort_by_form(
     system: &System,
     front: &Context,
@@ -89,7 +88,7 @@ fn sort_by_form(
 }
 
 // The judgement with the sort to which its type reduces.
-#[tactic(auto, using(pts_grow::proofs::Grow::keeping, pts_judge::proofs::Nodes::still, pts_reduce::proofs::Paid::later, crate::proofs::Atoms::sorts, pts_judge::proofs::Plain::plainly, pts_grow::proofs::Instances::still_compares))]
+#[tactic(auto, using(pts_grow::proofs::Grow::keeping, pts_grow::proofs::Judgements::still, pts_reduce::proofs::Paid::later, crate::proofs::Atoms::sorts, pts_grow::proofs::Plain::plainly, pts_grow::proofs::Instances::still_compares))]
 fn sort_reached(
     system: &System,
     proof: &mut Record,

@@ -9,10 +9,10 @@ ghost use Rattle.pts_ctx.specs.Front.{Front, bare_front};
 ghost use Rattle.pts_record.specs.Table.{named_at};
 ghost use Rattle.pts_rules.specs.Meter.{left};
 ghost use Rattle.pts_rules.specs.Valid.{IsValid, last_said, concludes_as};
-ghost use Rattle.pts_costs.specs.Laws.{WithinBudget};
-ghost use Rattle.pts_typing.specs.Typing.{Fits, comes, inference_nesting};
+ghost use Rattle.pts_reduce_cost.specs.Laws.{WithinBudget};
+ghost use Rattle.pts_infer_cost.specs.Typing.{Fits, comes, inference_nesting};
 ghost use Rattle.pts_grow.specs.Keeps.{Keeps, StaysValid, IsTerm, WhyNot};
-ghost use Rattle.pts_judge.specs.Judges.{IsTyped, Judges};
+ghost use Rattle.pts_grow.specs.Judges.{IsTyped, Judges};
 ghost use Rattle.pts_reduce.specs.Given.{Later};
 ghost use Rattle.pts_reduce.specs.Chain.{entries_of};
 ghost use Rattle.pts_infer.specs.Given.{IsOpened, IsTooLarge, EitherLarge};
@@ -26,8 +26,7 @@ use crate::inferring::{infer_in, sorted_in};
 use crate::judgements::Sorted;
 use crate::show::{show_fault, show_judged, show_misfit};
 use pts_ctx::{Context, System};
-use pts_grow::{TermFault, take_in};
-use pts_judge::{Judged, add_empty};
+use pts_grow::{Judged, TermFault, add_empty, take_in};
 use pts_record::Record;
 use pts_rules::Meter;
 use pts_terms::Term;
@@ -239,7 +238,7 @@ fn open_both(alloc: Global, term: &Term, ty: &Term) -> Result<(Opened, usize), T
 }
 
 // The inference of a term within limits, and its fit.
-#[tactic(auto, using(pts_grow::proofs::Grow::keeping, pts_judge::proofs::Nodes::still, pts_reduce::proofs::Paid::later))]
+#[tactic(auto, using(pts_grow::proofs::Grow::keeping, pts_grow::proofs::Judgements::still, pts_reduce::proofs::Paid::later))]
 fn infer_both(
     system: &System,
     front: &Context,

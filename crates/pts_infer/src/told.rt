@@ -3,8 +3,8 @@
 ghost use Rattle.std.specs.Prelude.{◌≡◌, ◌<◌, ℕ, List, length};
 ghost use Rattle.pts_record.specs.declared.shape.Shape.{Shape};
 ghost use Rattle.pts_record.specs.Table.{named_at};
-ghost use Rattle.pts_costs.specs.Run.{fails};
-ghost use Rattle.pts_typing.specs.Typing.{here, into, under, unsorted, not_a_sort, not_product, judged, of_argument, of_definition};
+ghost use Rattle.pts_reduce_cost.specs.Run.{fails};
+ghost use Rattle.pts_infer_cost.specs.Typing.{here, into, under, unsorted, not_a_sort, not_product, judged, of_argument, of_definition};
 ghost use Rattle.pts_infer.specs.Given.{FoundAs, MisfitsWith, ToldAs, ToldWanted, ToldOf, Shows, kind_of};
 
 use crate::fault::{Fault, Found, Misfit, What};

@@ -6,8 +6,8 @@ use Rattle.pts_tokens.specs.declared.token.Token.TheVariants.{Open, Name as Word
 use Rattle.pts_tokens.specs.declared.fault.TokenFault.{TokenFault}
 use Rattle.pts_tokens.specs.declared.fault.TokenFault.TheVariants as token
 use Rattle.pts_tokens.specs.Tokens.{Spot}
-use Rattle.pts_syntax.specs.declared.kind.Kind.{Kind}
-use Rattle.pts_syntax.specs.Refusals.{open_behind}
+use Rattle.pts_grammar.specs.declared.kind.Kind.{Kind}
+use Rattle.pts_grammar.specs.Refusals.{open_behind}
 use Rattle.pts_parser.specs.declared.fault.ReadFault.{ReadFault}
 use Rattle.pts_parser.specs.declared.fault.ReadFault.TheVariants.{BadChar, LongName, Expected, TooDeep, UnknownName, UnknownSort, Memory}
 use Rattle.pts_parser.specs.Reading.{tokens_from}

@@ -4,9 +4,9 @@ use Rattle.std.specs.Prelude.{codes}
 use Rattle.pts_tokens.specs.declared.token.Token.{Token}
 use Rattle.pts_tokens.specs.declared.token.Token.TheVariants.{Colon, Assign, Semicolon, Sort, Name as Word, Number}
 use Rattle.pts_tokens.specs.Tokens.{Spot}
-use Rattle.pts_syntax.specs.Syntax.{Syntax, sort}
-use Rattle.pts_syntax.specs.Grammar.{Reads, application, atoms, no_more, a_sort, underscore}
-use Rattle.pts_syntax.specs.Seen.{within}
+use Rattle.pts_grammar.specs.Syntax.{Syntax, sort}
+use Rattle.pts_grammar.specs.Grammar.{Reads, application, atoms, no_more, a_sort, underscore}
+use Rattle.pts_grammar.specs.Seen.{within}
 use Rattle.pts_lines.specs.Items.{Item, plain, label, placed, number, colon, assign, semicolon, sign, Value, wanted, said}
 use Rattle.pts_lines.specs.Lines.{Terms}
 use Rattle.pts_lines.specs.Refusals.{CanGoOn, CanFollow, Wants, an_assign, a_colon, a_semicolon, a_number, a_name, a_plain}

@@ -2,13 +2,13 @@
 use Rattle.std.proofs.Common.{ℕ, drop, min, ◌≡◌, refl, sym, ◌∙◌, ap, List, [], Ok, Err, Result}
 use Rattle.std.proofs.lemmas.List.{drop_min}
 use Rattle.pts_tokens.specs.Tokens.{Spot}
-use Rattle.pts_syntax.specs.declared.kind.Kind.{Kind}
-use Rattle.pts_syntax.specs.Syntax.{Syntax}
-use Rattle.pts_syntax.specs.Machine.{Build, syntax, Outcome, read, expected, too_deep, begin, run}
-use Rattle.pts_syntax.specs.Seen.{Part, within, parts}
-use Rattle.pts_syntax.specs.Open.{more}
-use Rattle.pts_syntax.proofs.Carried.{on_outcome, same_run}
-use Rattle.pts_syntax.proofs.Answer.{answers_read}
+use Rattle.pts_grammar.specs.declared.kind.Kind.{Kind}
+use Rattle.pts_grammar.specs.Syntax.{Syntax}
+use Rattle.pts_grammar.specs.Machine.{Build, syntax, Outcome, read, expected, too_deep, begin, run}
+use Rattle.pts_grammar.specs.Seen.{Part, within, parts}
+use Rattle.pts_grammar.specs.Open.{more}
+use Rattle.pts_grammar.proofs.Carried.{on_outcome, same_run}
+use Rattle.pts_grammar.proofs.Answer.{answers_read}
 use Rattle.pts_parser.specs.declared.fault.ReadFault.{ReadFault}
 use Rattle.pts_parser.specs.declared.fault.ReadFault.TheVariants.{Expected, TooDeep}
 use Rattle.pts_lines.specs.Forms.{of_outcome, first_term}

@@ -3,8 +3,8 @@ use Rattle.std.proofs.Common.{ℕ, ◌≡◌, ◌≤◌, ◌<◌, sym, ◌∙◌
 use Rattle.std.proofs.lemmas.List.{append-nil}
 use Rattle.pts_tokens.specs.declared.token.Token.TheVariants.{Open}
 use Rattle.pts_tokens.specs.Tokens.{Spot}
-use Rattle.pts_syntax.specs.declared.kind.Kind.{Kind}
-use Rattle.pts_syntax.specs.Refusals.{open_behind}
+use Rattle.pts_grammar.specs.declared.kind.Kind.{Kind}
+use Rattle.pts_grammar.specs.Refusals.{open_behind}
 use Rattle.pts_lines.specs.Refusals.{CanGoOn, Wants, the_end, an_assign, a_colon, a_semicolon, a_dot, an_in, a_close, a_number, a_name, a_plain, a_term, Refused, at_token, at_end, too_many, NoneTooMany, FirstTooMany, first_too_many}
 use Rattle.pts_lines.proofs.Frames.{opened_through}
 use Rattle.pts_lines.proofs.Marks.{nothing_marked, Side, in_front, in_rest, side, front_goes}

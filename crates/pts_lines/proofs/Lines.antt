@@ -5,8 +5,8 @@ use Rattle.std.proofs.lemmas.List.{take_min}
 use Rattle.pts_names.specs.Name.{Name}
 use Rattle.pts_tokens.specs.declared.token.Token.TheVariants.{Name as Word}
 use Rattle.pts_tokens.specs.Tokens.{Spot}
-use Rattle.pts_syntax.specs.Seen.{within}
-use Rattle.pts_syntax.specs.Open.{more}
+use Rattle.pts_grammar.specs.Seen.{within}
+use Rattle.pts_grammar.specs.Open.{more}
 use Rattle.pts_parser.specs.declared.fault.ReadFault.{ReadFault}
 use Rattle.pts_parser.specs.declared.fault.ReadFault.TheVariants.{BadChar, LongName, Expected, TooDeep, UnknownName, UnknownSort, Memory}
 use Rattle.pts_parser.specs.Reading.{tokens_from}

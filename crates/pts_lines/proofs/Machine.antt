@@ -5,20 +5,20 @@ use Rattle.std.specs.Prelude.{codes}
 use Rattle.pts_tokens.specs.declared.token.Token.{Token}
 use Rattle.pts_tokens.specs.declared.token.Token.TheVariants.{In, Colon, Assign, Dot, Arrow, Open, Close, Semicolon, Sort, Name as Word}
 use Rattle.pts_tokens.specs.Tokens.{Spot}
-use Rattle.pts_syntax.specs.declared.kind.Kind.{Kind}
-use Rattle.pts_syntax.specs.declared.kind.Kind.TheVariants as kind
-use Rattle.pts_syntax.specs.Syntax.{Syntax}
-use Rattle.pts_syntax.specs.Grammar.{Reads, underscore}
-use Rattle.pts_syntax.specs.Machine.{syntax, in_parens, at_type, at_body, let_value, let_type, let_body, behind_arrow, State, begin, binder, binder_sign, let_name, let_sign, after, Move, go, stay, fail, deep, read, expected, too_deep, closing, step, whole, at_end as end_of, run}
-use Rattle.pts_syntax.specs.Refusals.{Viable}
-use Rattle.pts_syntax.specs.Refusals as grammar
-use Rattle.pts_syntax.proofs.Complete.{Frames, follow, Ends, ended, plain_goes, Agrees, exactly, cut_off, reads_run}
-use Rattle.pts_syntax.proofs.Sound.{always, read_always, run_shallow, step_shallow}
-use Rattle.pts_syntax.proofs.Reach.{bound_cuts, reach, reach_run, reach_more}
-use Rattle.pts_syntax.proofs.Refusals.{closer, kind_at, wants_at, viable_here, can, ended_here, Closes, by_close, by_dot, by_colon, by_in, by_end, closes, refusals_are_the_grammars}
-use Rattle.pts_syntax.proofs.TooDeep.{reach_viable}
-use Rattle.pts_syntax.proofs.Determined.{determined}
-use Rattle.pts_syntax.proofs.Underscore.{underscore_is_identifier}
+use Rattle.pts_grammar.specs.declared.kind.Kind.{Kind}
+use Rattle.pts_grammar.specs.declared.kind.Kind.TheVariants as kind
+use Rattle.pts_grammar.specs.Syntax.{Syntax}
+use Rattle.pts_grammar.specs.Grammar.{Reads, underscore}
+use Rattle.pts_grammar.specs.Machine.{syntax, in_parens, at_type, at_body, let_value, let_type, let_body, behind_arrow, State, begin, binder, binder_sign, let_name, let_sign, after, Move, go, stay, fail, deep, read, expected, too_deep, closing, step, whole, at_end as end_of, run}
+use Rattle.pts_grammar.specs.Refusals.{Viable}
+use Rattle.pts_grammar.specs.Refusals as grammar
+use Rattle.pts_grammar.proofs.Complete.{Frames, follow, Ends, ended, plain_goes, Agrees, exactly, cut_off, reads_run}
+use Rattle.pts_grammar.proofs.Sound.{always, read_always, run_shallow, step_shallow}
+use Rattle.pts_grammar.proofs.Reach.{bound_cuts, reach, reach_run, reach_more}
+use Rattle.pts_grammar.proofs.Refusals.{closer, kind_at, wants_at, viable_here, can, ended_here, Closes, by_close, by_dot, by_colon, by_in, by_end, closes, refusals_are_the_grammars}
+use Rattle.pts_grammar.proofs.TooDeep.{reach_viable}
+use Rattle.pts_grammar.proofs.Determined.{determined}
+use Rattle.pts_grammar.proofs.Underscore.{underscore_is_identifier}
 use Rattle.pts_lines.specs.Refusals.{CanGoOn, CanFollow, Wants, an_assign, a_colon, a_dot, an_in, a_close, a_name, a_term, Refused, at_token, at_end}
 
 -- What the machine reads, however many parentheses are open.

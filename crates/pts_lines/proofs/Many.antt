@@ -2,16 +2,16 @@
 use Rattle.std.proofs.Common.{ℕ, ◌≡◌, refl, sym, ◌∙◌, ap, subst, List, [], ◌∷◌, ◌++◌, false, Some, None, append_assoc}
 use Rattle.pts_tokens.specs.declared.token.Token.TheVariants.{Open}
 use Rattle.pts_tokens.specs.Tokens.{Spot}
-use Rattle.pts_syntax.specs.Syntax.{Syntax}
-use Rattle.pts_syntax.specs.Grammar.{Reads}
-use Rattle.pts_syntax.specs.Machine.{syntax, State, begin, Move, go, stay, fail, deep, Outcome, read, too_deep, step, run}
-use Rattle.pts_syntax.specs.Open.{more}
-use Rattle.pts_syntax.specs.Refusals as grammar
-use Rattle.pts_syntax.proofs.Complete.{follow, Ends, continues, Agrees, exactly, cut_off}
-use Rattle.pts_syntax.proofs.Sound.{always}
-use Rattle.pts_syntax.proofs.Reach.{bound_cuts, reach}
-use Rattle.pts_syntax.proofs.Refusals.{viable_here}
-use Rattle.pts_syntax.proofs.TooDeep.{too_deep_is_too_many, none_too_many}
+use Rattle.pts_grammar.specs.Syntax.{Syntax}
+use Rattle.pts_grammar.specs.Grammar.{Reads}
+use Rattle.pts_grammar.specs.Machine.{syntax, State, begin, Move, go, stay, fail, deep, Outcome, read, too_deep, step, run}
+use Rattle.pts_grammar.specs.Open.{more}
+use Rattle.pts_grammar.specs.Refusals as grammar
+use Rattle.pts_grammar.proofs.Complete.{follow, Ends, continues, Agrees, exactly, cut_off}
+use Rattle.pts_grammar.proofs.Sound.{always}
+use Rattle.pts_grammar.proofs.Reach.{bound_cuts, reach}
+use Rattle.pts_grammar.proofs.Refusals.{viable_here}
+use Rattle.pts_grammar.proofs.TooDeep.{too_deep_is_too_many, none_too_many}
 use Rattle.pts_lines.specs.Refusals.{CanGoOn, too_many, NoneTooMany, FirstTooMany, first_too_many}
 use Rattle.pts_lines.proofs.Marks.{nothing_marked, Side, in_front, in_rest, side}
 

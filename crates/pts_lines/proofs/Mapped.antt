@@ -1,8 +1,8 @@
 -- What is made of a term of a line.
 use Rattle.std.proofs.Common.{ℕ, ◌≡◌, refl, Bool, List, [], ◌∷◌, Option, Some, None, option_map, Result, Ok, Err}
 use Rattle.pts_tokens.specs.Tokens.{Spot}
-use Rattle.pts_syntax.specs.Syntax.{Syntax}
-use Rattle.pts_syntax.specs.Seen.{Part}
+use Rattle.pts_grammar.specs.Syntax.{Syntax}
+use Rattle.pts_grammar.specs.Seen.{Part}
 use Rattle.pts_parser.specs.declared.fault.ReadFault.{ReadFault}
 use Rattle.pts_parser.specs.Resolution.{and_then}
 use Rattle.pts_lines.specs.Forms.{term, terms, first_term, any_of, ended, shallow, run_form, term_form, all_of}

@@ -5,16 +5,16 @@ use Rattle.std.specs.Prelude.{codes}
 use Rattle.pts_tokens.specs.declared.token.Token.{Token}
 use Rattle.pts_tokens.specs.declared.token.Token.TheVariants.{In, Colon, Assign, Dot, Close, Semicolon, Sort, Name as Word, Number}
 use Rattle.pts_tokens.specs.Tokens.{Spot}
-use Rattle.pts_syntax.specs.declared.kind.Kind.{Kind}
-use Rattle.pts_syntax.specs.declared.kind.Kind.TheVariants as kind
-use Rattle.pts_syntax.specs.Syntax.{Syntax}
-use Rattle.pts_syntax.specs.Grammar.{underscore}
-use Rattle.pts_syntax.specs.Machine.{syntax, State, begin, read, at_end as end_of, run}
-use Rattle.pts_syntax.specs.Seen.{Part, within}
-use Rattle.pts_syntax.proofs.Complete.{Ends, continues}
-use Rattle.pts_syntax.proofs.Sound.{always}
-use Rattle.pts_syntax.proofs.Reach.{reach}
-use Rattle.pts_syntax.proofs.Refusals.{ended_here}
+use Rattle.pts_grammar.specs.declared.kind.Kind.{Kind}
+use Rattle.pts_grammar.specs.declared.kind.Kind.TheVariants as kind
+use Rattle.pts_grammar.specs.Syntax.{Syntax}
+use Rattle.pts_grammar.specs.Grammar.{underscore}
+use Rattle.pts_grammar.specs.Machine.{syntax, State, begin, read, at_end as end_of, run}
+use Rattle.pts_grammar.specs.Seen.{Part, within}
+use Rattle.pts_grammar.proofs.Complete.{Ends, continues}
+use Rattle.pts_grammar.proofs.Sound.{always}
+use Rattle.pts_grammar.proofs.Reach.{reach}
+use Rattle.pts_grammar.proofs.Refusals.{ended_here}
 use Rattle.pts_lines.specs.Items.{Item, plain, label, placed, number, colon, assign, semicolon, sign, Value, wanted, said}
 use Rattle.pts_lines.specs.Lines.{last_term, more_terms}
 use Rattle.pts_lines.specs.Refusals.{CanFollow, Wants, the_end, an_assign, a_colon, a_semicolon, a_dot, an_in, a_close, a_number, a_name, a_plain, a_term}

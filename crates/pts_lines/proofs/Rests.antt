@@ -4,10 +4,10 @@ use Rattle.pts_names.specs.Name.{Name as Text, is_identifier}
 use Rattle.pts_tokens.specs.declared.token.Token.{Token}
 use Rattle.pts_tokens.specs.declared.token.Token.TheVariants.{Lambda, At, Let, Colon, Assign, Arrow, Open, Sort, Name as Word}
 use Rattle.pts_tokens.specs.Tokens.{Spot}
-use Rattle.pts_syntax.specs.declared.kind.Kind.TheVariants as kind
-use Rattle.pts_syntax.specs.Syntax.{Syntax}
-use Rattle.pts_syntax.specs.Machine.{syntax, in_parens, at_type, at_body, let_value, let_type, let_body, behind_arrow, State, begin, binder, binder_sign, let_name, let_sign, after, Move, go, stay, fail, deep, read, if_plain, opening, step, whole, at_end, run}
-use Rattle.pts_syntax.proofs.Complete.{Frames, follow, Ends, continues, opening_is}
+use Rattle.pts_grammar.specs.declared.kind.Kind.TheVariants as kind
+use Rattle.pts_grammar.specs.Syntax.{Syntax}
+use Rattle.pts_grammar.specs.Machine.{syntax, in_parens, at_type, at_body, let_value, let_type, let_body, behind_arrow, State, begin, binder, binder_sign, let_name, let_sign, after, Move, go, stay, fail, deep, read, if_plain, opening, step, whole, at_end, run}
+use Rattle.pts_grammar.proofs.Complete.{Frames, follow, Ends, continues, opening_is}
 
 module _ (more : ℕ → Bool) where
   plain_stays : (x : Text) (S : State Syntax) (U : Syntax) → ¬ (if_plain syntax x S ≡ stay U)

@@ -2,11 +2,11 @@
 use Rattle.std.proofs.Common.{ℕ, zero, suc, pred, ◌≡◌, ◌<◌, ◌≤◌, refl, sym, ◌∙◌, ap, Bool, true, false, List, [], ◌∷◌, ◌++◌, append_assoc, map, arith, length, Option, Some, None, Result, Ok, Err}
 use Rattle.std.proofs.lemmas.List.{map-append}
 use Rattle.pts_tokens.specs.Tokens.{Spot}
-use Rattle.pts_syntax.specs.declared.kind.Kind.TheVariants.{End as end_wanted}
-use Rattle.pts_syntax.specs.Syntax.{Syntax}
-use Rattle.pts_syntax.specs.Machine.{syntax, Outcome, read, expected, too_deep, begin, run}
-use Rattle.pts_syntax.specs.Seen.{Part}
-use Rattle.pts_syntax.proofs.Sound.{machine_sound}
+use Rattle.pts_grammar.specs.declared.kind.Kind.TheVariants.{End as end_wanted}
+use Rattle.pts_grammar.specs.Syntax.{Syntax}
+use Rattle.pts_grammar.specs.Machine.{syntax, Outcome, read, expected, too_deep, begin, run}
+use Rattle.pts_grammar.specs.Seen.{Part}
+use Rattle.pts_grammar.proofs.Sound.{machine_sound}
 use Rattle.pts_parser.specs.declared.fault.ReadFault.{ReadFault}
 use Rattle.pts_parser.specs.declared.fault.ReadFault.TheVariants.{BadChar, LongName, Expected, TooDeep, UnknownName, UnknownSort, Memory}
 use Rattle.pts_parser.specs.Resolution.{UnlessMemory, and_then}

@@ -1,8 +1,8 @@
 -- A line is answered if none of its terms is too deep.
 use Rattle.std.proofs.Common.{ℕ, ◌≡◌, ◌≤◌, ◌<◌, refl, sym, ◌∙◌, ap, subst, arith, List, [], ◌∷◌, map, Bool, true, false, cond, Option, Some, None, option_map, max, nat_le}
 use Rattle.pts_tokens.specs.Tokens.{Spot}
-use Rattle.pts_syntax.specs.Syntax.{Syntax, depth_of}
-use Rattle.pts_syntax.specs.Seen.{within}
+use Rattle.pts_grammar.specs.Syntax.{Syntax, depth_of}
+use Rattle.pts_grammar.specs.Seen.{within}
 use Rattle.pts_lines.specs.declared.command.Command.{Command}
 use Rattle.pts_lines.specs.Lines.{Line, Follows}
 use Rattle.pts_lines.specs.Seen.{deepest, terms_of}

@@ -4,19 +4,19 @@ use Rattle.std.proofs.lemmas.List.{append-nil}
 use Rattle.pts_tokens.specs.declared.token.Token.{Token}
 use Rattle.pts_tokens.specs.declared.token.Token.TheVariants.{Lambda, At, Let, Assign, Semicolon, Open, Close, Sort, Name as Word}
 use Rattle.pts_tokens.specs.Tokens.{Spot}
-use Rattle.pts_syntax.specs.declared.kind.Kind.{Kind}
-use Rattle.pts_syntax.specs.declared.kind.Kind.TheVariants as kind
-use Rattle.pts_syntax.specs.Syntax.{Syntax}
-use Rattle.pts_syntax.specs.Grammar.{Reads}
-use Rattle.pts_syntax.specs.Machine.{syntax, State, begin, go, stay, fail, Outcome, read, expected, too_deep, step, run}
-use Rattle.pts_syntax.specs.Seen.{Part, within}
-use Rattle.pts_syntax.specs.Open.{more}
-use Rattle.pts_syntax.specs.Refusals.{open_behind}
-use Rattle.pts_syntax.specs.Refusals as grammar
-use Rattle.pts_syntax.proofs.Complete.{Ends, continues, follow}
-use Rattle.pts_syntax.proofs.Sound.{always, machine_sound}
-use Rattle.pts_syntax.proofs.Refusals.{viable_here}
-use Rattle.pts_syntax.proofs.TooDeep.{none_too_many}
+use Rattle.pts_grammar.specs.declared.kind.Kind.{Kind}
+use Rattle.pts_grammar.specs.declared.kind.Kind.TheVariants as kind
+use Rattle.pts_grammar.specs.Syntax.{Syntax}
+use Rattle.pts_grammar.specs.Grammar.{Reads}
+use Rattle.pts_grammar.specs.Machine.{syntax, State, begin, go, stay, fail, Outcome, read, expected, too_deep, step, run}
+use Rattle.pts_grammar.specs.Seen.{Part, within}
+use Rattle.pts_grammar.specs.Open.{more}
+use Rattle.pts_grammar.specs.Refusals.{open_behind}
+use Rattle.pts_grammar.specs.Refusals as grammar
+use Rattle.pts_grammar.proofs.Complete.{Ends, continues, follow}
+use Rattle.pts_grammar.proofs.Sound.{always, machine_sound}
+use Rattle.pts_grammar.proofs.Refusals.{viable_here}
+use Rattle.pts_grammar.proofs.TooDeep.{none_too_many}
 use Rattle.pts_parser.specs.declared.fault.ReadFault.{ReadFault}
 use Rattle.pts_parser.specs.declared.fault.ReadFault.TheVariants.{BadChar, LongName, Expected, TooDeep, UnknownName, UnknownSort, Memory}
 use Rattle.pts_parser.specs.Resolution.{and_then}
@@ -252,7 +252,7 @@ begins_as p t e = absurd (cc e)
 pub begun : (p : ℕ) (t : Token) → begins_term t ≡ true → CanGoOn Several ((p, t) ∷ [])
 begun p t e =
     let q = begins_as p t e in
-    let v = viable_here ((p, t) ∷ []) q.0 (ap (λ m. elim m [ go P ↦ Some P | stay T ↦ None | fail k ↦ None | Rattle.pts_syntax.specs.Machine.deep ↦ None ]) q.1) in
+    let v = viable_here ((p, t) ∷ []) q.0 (ap (λ m. elim m [ go P ↦ Some P | stay T ↦ None | fail k ↦ None | Rattle.pts_grammar.specs.Machine.deep ↦ None ]) q.1) in
     several_inside ((p, t) ∷ []) v.0 v.1 v.2
 
 not_begun : (p : ℕ) (t : Token) → begins_term t ≡ false → ¬ CanGoOn Several ((p, t) ∷ [])

@@ -4,10 +4,10 @@ use Rattle.pts_names.specs.Name.{Name}
 use Rattle.pts_tokens.specs.declared.token.Token.{Token}
 use Rattle.pts_tokens.specs.declared.token.Token.TheVariants.{Assign, Semicolon}
 use Rattle.pts_tokens.specs.Tokens.{Spot}
-use Rattle.pts_syntax.specs.Syntax.{Syntax}
-use Rattle.pts_syntax.specs.Grammar.{Reads}
-use Rattle.pts_syntax.proofs.Complete.{Ends, continues}
-use Rattle.pts_syntax.proofs.Sound.{one_syntax}
+use Rattle.pts_grammar.specs.Syntax.{Syntax}
+use Rattle.pts_grammar.specs.Grammar.{Reads}
+use Rattle.pts_grammar.proofs.Complete.{Ends, continues}
+use Rattle.pts_grammar.proofs.Sound.{one_syntax}
 use Rattle.pts_lines.specs.declared.command.Command.{Command}
 use Rattle.pts_lines.specs.Lines.{Line, of_term, of_type, budget, equality, definition, instantiation, Terms, last_term, more_terms, Follows, nothing, a_plain, a_name, a_term, a_type, two_names, a_number, two_terms, untyped, with_type, no_terms, some_terms, LineReads, a_line}
 use Rattle.pts_lines.proofs.Frames.{reads_shorter}

@@ -6,19 +6,19 @@ use Rattle.pts_names.specs.Name.{Name as Text}
 use Rattle.pts_tokens.specs.declared.token.Token.{Token}
 use Rattle.pts_tokens.specs.declared.token.Token.TheVariants.{In, Colon, Assign, Dot, Close, Semicolon, Sort, Name as Word, Number}
 use Rattle.pts_tokens.specs.Tokens.{Spot}
-use Rattle.pts_syntax.specs.declared.kind.Kind.{Kind}
-use Rattle.pts_syntax.specs.declared.kind.Kind.TheVariants as kind
-use Rattle.pts_syntax.specs.Syntax.{Syntax}
-use Rattle.pts_syntax.specs.Grammar.{Reads, underscore}
-use Rattle.pts_syntax.specs.Machine.{syntax, in_parens, at_type, at_body, let_value, let_type, let_body, behind_arrow, State, begin, binder, binder_sign, let_name, let_sign, after, Move, go, stay, fail, deep, read, expected, too_deep, closing, step, at_end as end_of, run}
-use Rattle.pts_syntax.specs.Refusals as grammar
-use Rattle.pts_syntax.proofs.Complete.{Frames, follow, plain_goes}
-use Rattle.pts_syntax.proofs.Sound.{always, read_always}
-use Rattle.pts_syntax.proofs.Reach.{reach, reach_run}
-use Rattle.pts_syntax.proofs.Refusals.{kind_at, viable_here, cannot_cases, can, ended_here}
-use Rattle.pts_syntax.proofs.TooDeep.{reach_viable}
-use Rattle.pts_syntax.proofs.Determined.{determined}
-use Rattle.pts_syntax.proofs.Underscore.{underscore_is_identifier}
+use Rattle.pts_grammar.specs.declared.kind.Kind.{Kind}
+use Rattle.pts_grammar.specs.declared.kind.Kind.TheVariants as kind
+use Rattle.pts_grammar.specs.Syntax.{Syntax}
+use Rattle.pts_grammar.specs.Grammar.{Reads, underscore}
+use Rattle.pts_grammar.specs.Machine.{syntax, in_parens, at_type, at_body, let_value, let_type, let_body, behind_arrow, State, begin, binder, binder_sign, let_name, let_sign, after, Move, go, stay, fail, deep, read, expected, too_deep, closing, step, at_end as end_of, run}
+use Rattle.pts_grammar.specs.Refusals as grammar
+use Rattle.pts_grammar.proofs.Complete.{Frames, follow, plain_goes}
+use Rattle.pts_grammar.proofs.Sound.{always, read_always}
+use Rattle.pts_grammar.proofs.Reach.{reach, reach_run}
+use Rattle.pts_grammar.proofs.Refusals.{kind_at, viable_here, cannot_cases, can, ended_here}
+use Rattle.pts_grammar.proofs.TooDeep.{reach_viable}
+use Rattle.pts_grammar.proofs.Determined.{determined}
+use Rattle.pts_grammar.proofs.Underscore.{underscore_is_identifier}
 use Rattle.pts_lines.specs.Items.{wanted}
 use Rattle.pts_lines.specs.Refusals.{CanGoOn, CanFollow, Wants, the_end, an_assign, a_colon, a_semicolon, a_dot, an_in, a_close, a_number, a_name, a_plain, a_term}
 use Rattle.pts_lines.specs.Forms.{Sign, by_assign, by_semicolon, item_of}

@@ -4,10 +4,10 @@ use Rattle.pts_names.specs.Name.{Name}
 use Rattle.pts_tokens.specs.declared.token.Token.{Token}
 use Rattle.pts_tokens.specs.declared.token.Token.TheVariants.{Lambda, At, Let, Open, Sort, Semicolon, Name as Word}
 use Rattle.pts_tokens.specs.Tokens.{Spot}
-use Rattle.pts_syntax.specs.declared.kind.Kind.TheVariants.{Command as command_wanted, Term as term_wanted, End as end_wanted}
-use Rattle.pts_syntax.specs.Syntax.{Syntax}
-use Rattle.pts_syntax.specs.Seen.{Part}
-use Rattle.pts_syntax.specs.Machine.{syntax, Outcome, read, expected, too_deep, begin, run}
+use Rattle.pts_grammar.specs.declared.kind.Kind.TheVariants.{Command as command_wanted, Term as term_wanted, End as end_wanted}
+use Rattle.pts_grammar.specs.Syntax.{Syntax}
+use Rattle.pts_grammar.specs.Seen.{Part}
+use Rattle.pts_grammar.specs.Machine.{syntax, Outcome, read, expected, too_deep, begin, run}
 use Rattle.pts_parser.specs.declared.fault.ReadFault.{ReadFault}
 use Rattle.pts_parser.specs.declared.fault.ReadFault.TheVariants.{Expected, TooDeep}
 use Rattle.pts_parser.specs.Resolution.{UnlessMemory, and_then}

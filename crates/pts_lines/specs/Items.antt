@@ -4,8 +4,8 @@ use Rattle.std.specs.Prelude.{ℕ, ◌+◌, ◌*◌, ◌-◌, ◌&&◌, ◌==◌
 use Rattle.pts_names.specs.Name.{Name}
 use Rattle.pts_tokens.specs.declared.token.Token.TheVariants.{Colon, Assign, Semicolon, Name as Word, Number}
 use Rattle.pts_tokens.specs.Tokens.{Spot}
-use Rattle.pts_syntax.specs.declared.kind.Kind.{Kind}
-use Rattle.pts_syntax.specs.declared.kind.Kind.TheVariants as kind
+use Rattle.pts_grammar.specs.declared.kind.Kind.{Kind}
+use Rattle.pts_grammar.specs.declared.kind.Kind.TheVariants as kind
 use Rattle.pts_parser.specs.Resolution.{is_plain}
 use Rattle.pts_parser.specs.declared.fault.ReadFault.{ReadFault}
 use Rattle.pts_parser.specs.declared.fault.ReadFault.TheVariants.{Expected}

@@ -3,8 +3,8 @@ use Rattle.std.specs.Prelude.{◌≡◌, ℕ, List, [], ◌∷◌, Option, Some,
 use Rattle.pts_names.specs.Name.{Name}
 use Rattle.pts_tokens.specs.declared.token.Token.TheVariants.{Colon, Assign, Semicolon, Name as Word, Number}
 use Rattle.pts_tokens.specs.Tokens.{Spot}
-use Rattle.pts_syntax.specs.Syntax.{Syntax}
-use Rattle.pts_syntax.specs.Grammar.{Reads}
+use Rattle.pts_grammar.specs.Syntax.{Syntax}
+use Rattle.pts_grammar.specs.Grammar.{Reads}
 use Rattle.pts_parser.specs.Resolution.{is_plain}
 use Rattle.pts_lines.specs.declared.command.Alone.{Alone}
 use Rattle.pts_lines.specs.declared.command.Named.{Named}

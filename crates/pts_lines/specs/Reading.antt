@@ -6,13 +6,13 @@ use Rattle.pts_tokens.specs.declared.fault.TokenFault.{TokenFault}
 use Rattle.pts_tokens.specs.declared.fault.TokenFault.TheVariants as token
 use Rattle.pts_tokens.specs.declared.token.Token.TheVariants.{Name as Word}
 use Rattle.pts_tokens.specs.Tokens.{Spot}
-use Rattle.pts_syntax.specs.declared.kind.Kind.{Kind}
-use Rattle.pts_syntax.specs.declared.kind.Kind.TheVariants as kind
+use Rattle.pts_grammar.specs.declared.kind.Kind.{Kind}
+use Rattle.pts_grammar.specs.declared.kind.Kind.TheVariants as kind
 use Rattle.pts_parser.specs.declared.fault.ReadFault.{ReadFault}
 use Rattle.pts_parser.specs.declared.fault.ReadFault.TheVariants.{BadChar, LongName, Expected, TooDeep, UnknownName, UnknownSort, Memory}
 use Rattle.pts_parser.specs.Reading.{token_fault, tokens_from}
-use Rattle.pts_syntax.specs.Seen.{within}
-use Rattle.pts_syntax.specs.Open.{more}
+use Rattle.pts_grammar.specs.Seen.{within}
+use Rattle.pts_grammar.specs.Open.{more}
 use Rattle.pts_lines.specs.Forms.{run_line, run_declaration}
 use Rattle.pts_lines.specs.declared.command.Command.{Command}
 use Rattle.pts_lines.specs.declared.command.Declaring.{Declaring}

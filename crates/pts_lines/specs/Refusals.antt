@@ -4,10 +4,10 @@ use Rattle.pts_names.specs.Name.{Name as Text}
 use Rattle.pts_tokens.specs.declared.token.Token.{Token}
 use Rattle.pts_tokens.specs.declared.token.Token.TheVariants as token
 use Rattle.pts_tokens.specs.Tokens.{Spot}
-use Rattle.pts_syntax.specs.declared.kind.Kind.{Kind}
-use Rattle.pts_syntax.specs.declared.kind.Kind.TheVariants as kind
-use Rattle.pts_syntax.specs.Grammar.{underscore}
-use Rattle.pts_syntax.specs.Refusals.{open_behind}
+use Rattle.pts_grammar.specs.declared.kind.Kind.{Kind}
+use Rattle.pts_grammar.specs.declared.kind.Kind.TheVariants as kind
+use Rattle.pts_grammar.specs.Grammar.{underscore}
+use Rattle.pts_grammar.specs.Refusals.{open_behind}
 
 -- The tokens can go on to a text.
 abbrev pub CanGoOn : (List Spot → Type 0) → List Spot → Type 0

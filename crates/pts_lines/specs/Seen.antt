@@ -1,7 +1,7 @@
 -- What a line of the program says.
 use Rattle.std.specs.Prelude.{ℕ, max, List, [], ◌∷◌, map, Some, None, option_map}
-use Rattle.pts_syntax.specs.Syntax.{Syntax, depth_of}
-use Rattle.pts_syntax.specs.Seen.{syntax_of}
+use Rattle.pts_grammar.specs.Syntax.{Syntax, depth_of}
+use Rattle.pts_grammar.specs.Seen.{syntax_of}
 use Rattle.pts_lines.specs.declared.line.Line.{Line as TheLine}
 use Rattle.pts_lines.specs.declared.declaration.Declaration.{Declaration}
 use Rattle.pts_lines.specs.declared.command.Declaring.{Declaring}

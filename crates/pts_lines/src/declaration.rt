@@ -1,7 +1,7 @@
 ghost use Rattle.std.specs.Prelude.{◌≡◌, ◌≤◌, IfOk, OnOk, IfErr, MatchOption, take, true, false};
 ghost use Rattle.std.specs.Str.{is_utf8};
-ghost use Rattle.pts_syntax.specs.Seen.{within};
-ghost use Rattle.pts_syntax.specs.Open.{more};
+ghost use Rattle.pts_grammar.specs.Seen.{within};
+ghost use Rattle.pts_grammar.specs.Open.{more};
 ghost use Rattle.pts_parser.specs.Reading.{tokens_from};
 ghost use Rattle.pts_lines.specs.Words.{declaring};
 ghost use Rattle.pts_lines.specs.Seen.{declaration_of, deepest, terms_of};
@@ -13,7 +13,7 @@ use crate::shape::{definition, typed};
 use crate::word::declared;
 use pts_names::Name;
 use pts_parser::ReadFault;
-use pts_syntax::{Kind, Tree};
+use pts_grammar::{Kind, Tree};
 use pts_tokens::{Token, TokenFault, read_tokens};
 use std::alloc::{AllocError, Global};
 

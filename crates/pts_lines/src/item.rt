@@ -5,7 +5,7 @@ ghost use Rattle.pts_lines.specs.Forms.{AnswersAs, ended};
 
 use pts_names::Name;
 use pts_parser::ReadFault;
-use pts_syntax::Kind;
+use pts_grammar::Kind;
 use pts_tokens::Token;
 use std::alloc::Global;
 

@@ -1,6 +1,6 @@
 ghost use Rattle.std.specs.Prelude.{◌≡◌, ◌≤◌, IfOk, OnOk, IfErr};
-ghost use Rattle.pts_syntax.specs.Seen.{syntax_of, within};
-ghost use Rattle.pts_syntax.specs.Open.{more};
+ghost use Rattle.pts_grammar.specs.Seen.{syntax_of, within};
+ghost use Rattle.pts_grammar.specs.Open.{more};
 ghost use Rattle.pts_lines.specs.Lines.{alone, of_plain, of_name, of_term, of_type};
 ghost use Rattle.pts_lines.specs.Words as words;
 ghost use Rattle.pts_lines.specs.Seen.{line_of, deepest, terms_of};
@@ -15,7 +15,7 @@ use crate::term::{only_term, two_terms};
 use crate::word::command;
 use pts_names::Name;
 use pts_parser::ReadFault;
-use pts_syntax::{Kind, Tree};
+use pts_grammar::{Kind, Tree};
 use pts_tokens::{Token, read_tokens};
 use std::alloc::Global;
 

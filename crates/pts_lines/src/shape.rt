@@ -1,13 +1,13 @@
 ghost use Rattle.std.specs.Prelude.{◌≡◌, true, map, option_map};
-ghost use Rattle.pts_syntax.specs.Seen.{syntax_of, within};
-ghost use Rattle.pts_syntax.specs.Open.{more};
+ghost use Rattle.pts_grammar.specs.Seen.{syntax_of, within};
+ghost use Rattle.pts_grammar.specs.Open.{more};
 ghost use Rattle.pts_lines.specs.Forms.{AnswersAs, run_form, plain_form, placed_form, number_form, names_form, typed_form, definition_form, body_form, instance_form};
 
 use crate::item::{assign, colon, end, label, name, number, plain, sign};
 use crate::term::{any_terms, both, first_term, only_term};
 use pts_names::Name;
 use pts_parser::ReadFault;
-use pts_syntax::Tree;
+use pts_grammar::Tree;
 use pts_tokens::Token;
 use std::alloc::Global;
 

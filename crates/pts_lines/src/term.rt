@@ -1,13 +1,13 @@
 ghost use Rattle.std.specs.Prelude.{◌≡◌, IfOk, map, option_map};
 ghost use Rattle.std.specs.Prelude.{length as count};
-ghost use Rattle.pts_syntax.specs.Seen.{part_of, syntax_of, within};
-ghost use Rattle.pts_syntax.specs.Open.{more};
+ghost use Rattle.pts_grammar.specs.Seen.{part_of, syntax_of, within};
+ghost use Rattle.pts_grammar.specs.Open.{more};
 ghost use Rattle.pts_lines.specs.Forms.{AnswersAs, all_of, some_of, begins_term, is_semicolon, next_term, term_form, terms_form, terms, run_form, pair};
 ghost use Rattle.pts_lines.specs.Forms as forms;
 
 use crate::item::{end, semicolon};
 use pts_parser::ReadFault;
-use pts_syntax::{Kind, Parsed, Tree, parse};
+use pts_grammar::{Kind, Parsed, Tree, parse};
 use pts_tokens::Token;
 use std::alloc::{AllocError, Global};
 

@@ -4,7 +4,7 @@ use Rattle.std.specs.Prelude.{Result}
 use Rattle.pts_names.specs.Name.{Name}
 use Rattle.pts_terms.specs.Tree.{app, named_lam, named_pi, named_let}
 use Rattle.pts_ctx.specs.System.{sort_of}
-use Rattle.pts_syntax.specs.Syntax.{Syntax, sort as a_sort, name as a_name, app as applied, lam, pi, let_in, depth_of}
+use Rattle.pts_grammar.specs.Syntax.{Syntax, sort as a_sort, name as a_name, app as applied, lam, pi, let_in, depth_of}
 use Rattle.pts_parser.specs.declared.fault.ReadFault.{ReadFault}
 use Rattle.pts_parser.specs.declared.fault.ReadFault.TheVariants.{BadChar, LongName, Expected, TooDeep, UnknownName, UnknownSort, Memory}
 use Rattle.pts_parser.specs.Resolution.{and_then, constant_at, name_at, sort_at, binder_of, resolved, UnlessMemory}

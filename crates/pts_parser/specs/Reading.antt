@@ -4,11 +4,11 @@ use Rattle.pts_names.specs.Name.{Name}
 use Rattle.pts_tokens.specs.declared.fault.TokenFault.{TokenFault}
 use Rattle.pts_tokens.specs.declared.fault.TokenFault.TheVariants as token
 use Rattle.pts_tokens.specs.Tokens.{Spot, tokens_of}
-use Rattle.pts_syntax.specs.declared.fault.SyntaxFault.{SyntaxFault}
-use Rattle.pts_syntax.specs.declared.fault.SyntaxFault.TheVariants as syntax
-use Rattle.pts_syntax.specs.Syntax.{Syntax, depth_of}
-use Rattle.pts_syntax.specs.Grammar.{Reads}
-use Rattle.pts_syntax.specs.Refusals.{NoneTooMany, Refuses}
+use Rattle.pts_grammar.specs.declared.fault.SyntaxFault.{SyntaxFault}
+use Rattle.pts_grammar.specs.declared.fault.SyntaxFault.TheVariants as syntax
+use Rattle.pts_grammar.specs.Syntax.{Syntax, depth_of}
+use Rattle.pts_grammar.specs.Grammar.{Reads}
+use Rattle.pts_grammar.specs.Refusals.{NoneTooMany, Refuses}
 use Rattle.pts_terms.specs.Tree.{Named}
 use Rattle.pts_parser.specs.declared.fault.ReadFault.{ReadFault}
 use Rattle.pts_parser.specs.declared.fault.ReadFault.TheVariants.{BadChar, LongName, Expected, TooDeep, UnknownName, UnknownSort, Memory}

@@ -5,8 +5,8 @@ use Rattle.pts_terms.specs.Tree.{Named, sort, const, var, app, named_lam, named_
 use Rattle.pts_terms.specs.Seen.{named}
 use Rattle.pts_terms.specs.declared.term.Term.{Term}
 use Rattle.pts_ctx.specs.System.{sort_of}
-use Rattle.pts_syntax.specs.Syntax.{Syntax, sort as a_sort, name as a_name, app as applied, lam, pi, let_in}
-use Rattle.pts_syntax.specs.Grammar.{underscore}
+use Rattle.pts_grammar.specs.Syntax.{Syntax, sort as a_sort, name as a_name, app as applied, lam, pi, let_in}
+use Rattle.pts_grammar.specs.Grammar.{underscore}
 use Rattle.pts_parser.specs.declared.fault.ReadFault.{ReadFault}
 use Rattle.pts_parser.specs.declared.fault.ReadFault.TheVariants.{BadChar, LongName, Expected, TooDeep, UnknownName, UnknownSort, Memory}
 

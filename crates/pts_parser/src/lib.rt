@@ -13,7 +13,7 @@ mod scope;
 mod tests;
 
 pub use fault::ReadFault;
-pub use pts_syntax::{Kind, Tree};
+pub use pts_grammar::{Kind, Tree};
 pub use read::{read_term, read_tree};
 pub use resolution::resolve;
 pub use scope::Scope;

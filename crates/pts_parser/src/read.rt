@@ -1,6 +1,6 @@
 ghost use Rattle.std.specs.Prelude.{◌≤◌, IsCharBoundary, IfOk, OnOk, IfErr, Ok};
-ghost use Rattle.pts_syntax.specs.Syntax.{depth_of};
-ghost use Rattle.pts_syntax.specs.Seen.{syntax_of};
+ghost use Rattle.pts_grammar.specs.Syntax.{depth_of};
+ghost use Rattle.pts_grammar.specs.Seen.{syntax_of};
 ghost use Rattle.pts_terms.specs.Seen.{named};
 ghost use Rattle.pts_parser.specs.Reading.{Says, IsShallow, RefusesTree, Means, RefusesTerm};
 
@@ -9,7 +9,7 @@ use crate::resolution::resolve;
 use crate::scope::Scope;
 use pts_ctx::System;
 use pts_names::Name;
-use pts_syntax::{Tree, parse_term};
+use pts_grammar::{Tree, parse_term};
 use pts_terms::Term;
 use pts_tokens::read_tokens;
 use std::alloc::Global;

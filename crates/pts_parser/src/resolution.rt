@@ -1,6 +1,6 @@
 ghost use Rattle.std.specs.Prelude.{◌≡◌, ◌∷◌, OnOk, reverse};
 ghost use Rattle.pts_ctx.specs.System.{sort_of};
-ghost use Rattle.pts_syntax.specs.Seen.{syntax_of};
+ghost use Rattle.pts_grammar.specs.Seen.{syntax_of};
 ghost use Rattle.pts_parser.specs.Resolution.{resolved, name_at, sort_at, binder_of, Answers};
 
 use crate::binders::Binders;
@@ -9,7 +9,7 @@ use crate::part::{applied, lam, local, pi};
 use crate::scope::Scope;
 use pts_ctx::System;
 use pts_names::{Name, SortName};
-use pts_syntax::Tree;
+use pts_grammar::Tree;
 use pts_terms::Term;
 use sqlite_items::Boxed;
 use std::alloc::{AllocError, Global};

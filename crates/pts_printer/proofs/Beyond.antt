@@ -2,7 +2,7 @@
 use Rattle.std.proofs.Common.{ℕ, suc, ◌≡◌, ◌<◌, ◌≤◌, refl, arith, Bool, false, ◌||◌, nat_eq}
 use Rattle.pts_terms.specs.Tree.{Named, sort, const, var, app, named_lam, named_pi, named_let}
 use Rattle.pts_terms.specs.Limits.{IndicesBelow}
-use Rattle.pts_written.specs.Choice.{occurs}
+use Rattle.pts_printed.specs.Choice.{occurs}
 
 other_index : (m k i : ℕ) → m ≤ k → i < m → nat_eq i k ≡ false
 other_index m k i h b = grind arith

@@ -5,7 +5,7 @@ use mathlib.Core.Path.{ap₂}
 use Rattle.pts_names.specs.Name.{Name, same_name, is_identifier}
 use Rattle.pts_terms.specs.Tree.{Named, sort, const, var, app, named_lam, named_pi, named_let}
 use Rattle.pts_terms.specs.Limits.{IndicesBelow}
-use Rattle.pts_written.specs.Choice.{occurs, if_one_part, constants, occurring, forbidden, is_among}
+use Rattle.pts_printed.specs.Choice.{occurs, if_one_part, constants, occurring, forbidden, is_among}
 use Rattle.pts_printer.specs.Clashes.{is_outer, clashes}
 use Rattle.pts_printer.proofs.Names.{among_both}
 

@@ -2,12 +2,12 @@
 use Rattle.std.proofs.Common.{ℕ, ◌+◌, ◌-◌, ◌≡◌, ◌<◌, sym, ◌∙◌, ap, arith, List, [], ◌∷◌, ◌++◌, append_assoc, Bool, ◌&&◌, map, length, drop, get_or}
 use Rattle.std.proofs.lemmas.List.{drop_more, length-append, length-drop}
 use Rattle.pts_names.specs.Name.{Name, same_name}
-use Rattle.pts_syntax.specs.Grammar.{underscore}
+use Rattle.pts_grammar.specs.Grammar.{underscore}
 use Rattle.pts_terms.specs.Tree.{Named}
 use Rattle.pts_terms.specs.Seen.{named}
 use Rattle.pts_terms.specs.declared.term.Term.{Term}
-use Rattle.pts_written.specs.Choice.{occurs, choice}
-use Rattle.pts_written.specs.Locals.{named_locals, uses, occurs_behind, goal_uses}
+use Rattle.pts_printed.specs.Choice.{occurs, choice}
+use Rattle.pts_printed.specs.Locals.{named_locals, uses, occurs_behind, goal_uses}
 use Rattle.pts_printer.proofs.Names.{choice_used}
 
 -- One local further, whose name is z.

@@ -5,7 +5,7 @@ use Rattle.std.specs.Option.{unwrap_or}
 use Rattle.std.proofs.lemmas.Option.{unwrap_or-slice_get}
 use Rattle.pts_names.specs.Name.{Name}
 use Rattle.pts_terms.specs.Tree.{Named}
-use Rattle.pts_written.specs.Locals.{comma_joined, goal_line, hypotheses}
+use Rattle.pts_printed.specs.Locals.{comma_joined, goal_line, hypotheses}
 use Rattle.pts_printer.specs.Commas.{commas, turnstile}
 
 pub let_joined : (p x d A b : List ℕ) → ((p ++ (codes "let " ++ (x ++ (codes " := " ++ d)))) ++ (codes " : " ++ (A ++ codes " in "))) ++ b ≡ p ++ (codes "let " ++ (x ++ (codes " := " ++ (d ++ (codes " : " ++ (A ++ (codes " in " ++ b)))))))

@@ -4,7 +4,7 @@ use Rattle.std.proofs.lemmas.List.{length-reverse, drop_more, get_or-reverse, ge
 use Rattle.std.specs.Prelude.{slice_set, nat_lt, if◌then◌else◌}
 use mathlib.Core.Path.{ap₂}
 use Rattle.pts_terms.specs.Tree.{Named, sort, const, var, app, named_lam, named_pi, named_let}
-use Rattle.pts_written.specs.Choice.{occurs, occurring}
+use Rattle.pts_printed.specs.Choice.{occurs, occurring}
 use Rattle.pts_printer.specs.Marks.{mark_at, marked, first_mark, noted, picked}
 use Rattle.pts_terms.specs.Limits.{IndicesBelow}
 use Rattle.pts_printer.specs.Calls.{without_first}

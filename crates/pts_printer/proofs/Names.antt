@@ -5,9 +5,9 @@ use Rattle.std.specs.Cmp.Lexicographic.{pointwise}
 use Rattle.std.proofs.lemmas.List.{reverse-append, drop_more}
 use Rattle.pts_names.specs.Name.{Name, same_name, is_identifier}
 use Rattle.pts_names.proofs.Same.{same_name-pointwise, same_name-true}
-use Rattle.pts_syntax.specs.Grammar.{underscore}
+use Rattle.pts_grammar.specs.Grammar.{underscore}
 use Rattle.pts_printer.specs.Clashes.{is_outer}
-use Rattle.pts_written.specs.Choice.{is_among, base, letter_x, numbered, allowed, if_short, choice}
+use Rattle.pts_printed.specs.Choice.{is_among, base, letter_x, numbered, allowed, if_short, choice}
 
 pub reverse_more : {A : Type 0} (fs : List A) (f : A) → reverse (fs ++ f ∷ []) ≡ f ∷ reverse fs
 reverse_more fs f = reverse-append fs (f ∷ [])

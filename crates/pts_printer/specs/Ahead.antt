@@ -1,7 +1,7 @@
 -- Whether the variable of each binder of a term occurs in its body: a list, in the order in which the binders are written.
 use Rattle.std.specs.Prelude.{List, [], ◌∷◌, Bool, false, ◌≡◌}
 use Rattle.pts_terms.specs.Tree.{Named, sort, const, var, app, named_lam, named_pi, named_let}
-use Rattle.pts_written.specs.Choice.{occurs}
+use Rattle.pts_printed.specs.Choice.{occurs}
 use Rattle.pts_printer.specs.Calls.{without_first}
 
 -- What a list says of the next binder.

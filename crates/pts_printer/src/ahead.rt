@@ -2,7 +2,7 @@
 
 ghost use Rattle.std.specs.Prelude.{◌≡◌, ◌∷◌, false, IfOk, OnOk};
 ghost use Rattle.pts_terms.specs.Seen.{named};
-ghost use Rattle.pts_written.specs.Choice.{occurs};
+ghost use Rattle.pts_printed.specs.Choice.{occurs};
 ghost use Rattle.pts_printer.specs.Ahead.{first_use, behind, IsTold};
 ghost use Rattle.pts_printer.specs.Calls.{without_first};
 ghost use Rattle.pts_printer.specs.Marks.{noted};

@@ -2,10 +2,10 @@
 
 ghost use Rattle.std.specs.Prelude.{◌≡◌, ◌++◌, ◌&&◌, IfOk, OnOk};
 ghost use Rattle.pts_names.specs.Name.{same_name};
-ghost use Rattle.pts_syntax.specs.Grammar.{underscore};
+ghost use Rattle.pts_grammar.specs.Grammar.{underscore};
 ghost use Rattle.pts_terms.specs.Seen.{named};
-ghost use Rattle.pts_written.specs.Choice as choice;
-ghost use Rattle.pts_written.specs.Spelled as spelled;
+ghost use Rattle.pts_printed.specs.Choice as choice;
+ghost use Rattle.pts_printed.specs.Spelled as spelled;
 ghost use Rattle.pts_printer.specs.Calls.{forbidden};
 
 use crate::clash::clashes;

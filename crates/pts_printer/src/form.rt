@@ -2,8 +2,8 @@
 
 ghost use Rattle.std.specs.Prelude.{◌≡◌, List, ℕ};
 ghost use Rattle.pts_terms.specs.Seen.{named};
-ghost use Rattle.pts_written.specs.Spelled.{spelled};
-ghost use Rattle.pts_written.specs.Text as written;
+ghost use Rattle.pts_printed.specs.Spelled.{spelled};
+ghost use Rattle.pts_printed.specs.Text as written;
 
 use pts_terms::Term;
 

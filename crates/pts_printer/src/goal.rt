@@ -2,9 +2,9 @@
 
 ghost use Rattle.std.specs.Prelude.{◌≡◌, ◌++◌, ◌∷◌, [], OnOk, codes, length, map, reverse};
 ghost use Rattle.pts_terms.specs.Seen.{named};
-ghost use Rattle.pts_written.specs.Locals.{comma_joined, hypotheses};
-ghost use Rattle.pts_written.specs.Spelled.{spelled};
-ghost use Rattle.pts_written.specs.Text.{text_of};
+ghost use Rattle.pts_printed.specs.Locals.{comma_joined, hypotheses};
+ghost use Rattle.pts_printed.specs.Spelled.{spelled};
+ghost use Rattle.pts_printed.specs.Text.{text_of};
 ghost use Rattle.pts_printer.specs.Commas as commas;
 
 use crate::outer::{Outer, copy};

@@ -2,9 +2,9 @@
 
 ghost use Rattle.std.specs.Prelude.{◌≡◌, ◌++◌, ◌∷◌, [], IfOk, OnOk, length, map, reverse, vec_len, ◌&&◌};
 ghost use Rattle.pts_terms.specs.Seen.{named};
-ghost use Rattle.pts_written.specs.Locals as written;
+ghost use Rattle.pts_printed.specs.Locals as written;
 ghost use Rattle.pts_names.specs.Name.{same_name};
-ghost use Rattle.pts_syntax.specs.Grammar.{underscore};
+ghost use Rattle.pts_grammar.specs.Grammar.{underscore};
 
 use crate::choice::{add_constants, is_underscore, is_used};
 use crate::occurrence::occurs;
@@ -15,7 +15,7 @@ use pts_terms::Term;
 use std::alloc::{AllocError, Global};
 
 /// The printed names of the locals around a term, of which the outermost is the first.
-#[tactic(auto, unfolding(pts_written::specs::Locals::chosen_locals))]
+#[tactic(auto, unfolding(pts_printed::specs::Locals::chosen_locals))]
 pub(crate) fn chosen_locals(
     alloc: Global,
     locals: &[Name],
@@ -35,7 +35,7 @@ pub(crate) fn chosen_locals(
 }
 
 /// The printed names of the hypotheses of a goal, in their order.
-#[tactic(auto, unfolding(pts_written::specs::Locals::goal_locals))]
+#[tactic(auto, unfolding(pts_printed::specs::Locals::goal_locals))]
 pub(crate) fn goal_names(
     alloc: Global,
     names: &[Name],

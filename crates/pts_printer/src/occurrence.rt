@@ -3,7 +3,7 @@
 ghost use Rattle.std.specs.Prelude.{◌≡◌, ◌<◌, ◌≤◌, suc};
 ghost use Rattle.pts_terms.specs.Limits.{IndicesBelow};
 ghost use Rattle.pts_terms.specs.Seen.{named};
-ghost use Rattle.pts_written.specs.Choice.{occurs};
+ghost use Rattle.pts_printed.specs.Choice.{occurs};
 ghost use Rattle.pts_printer.specs.Marks.{mark_at, marked};
 
 use pts_terms::{Boxed, Term};

@@ -1,6 +1,6 @@
 ghost use Rattle.std.specs.Prelude.{◌≡◌, ◌∷◌, ◌++◌, [], IfOk, OnOk, false, replicate, get_or, length, reverse, vec_len};
 ghost use Rattle.pts_terms.specs.Seen.{named};
-ghost use Rattle.pts_written.specs.Choice.{occurring};
+ghost use Rattle.pts_printed.specs.Choice.{occurring};
 ghost use Rattle.pts_printer.specs.Marks.{marked, picked};
 ghost use Rattle.pts_printer.specs.Clashes.{is_outer};
 ghost use Rattle.pts_printer.specs.Calls.{without_first};

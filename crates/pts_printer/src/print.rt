@@ -1,6 +1,6 @@
 ghost use Rattle.std.specs.Prelude.{◌≡◌, IfOk, length, map, string_bytes};
 ghost use Rattle.pts_terms.specs.Seen.{named};
-ghost use Rattle.pts_written.specs.Locals.{printed, printed_goal};
+ghost use Rattle.pts_printed.specs.Locals.{printed, printed_goal};
 
 use crate::goal::{hypotheses_at, turnstile};
 use crate::locals::{chosen_locals, goal_names};
@@ -19,7 +19,7 @@ use std::alloc::{AllocError, Global};
 ///
 /// The cost is that of the text, of going through the term once, and for each binder that is written with its name that of
 /// going through its body, and of the names around it where its name needs a number. Calls nest as deep as the term.
-#[tactic(auto, unfolding(pts_written::specs::Locals::printed))]
+#[tactic(auto, unfolding(pts_printed::specs::Locals::printed))]
 pub fn print_term(
     alloc: Global,
     system: &System,
@@ -39,7 +39,7 @@ pub fn print_term(
 ///
 /// The printed names of the hypotheses are chosen first, and then those of the binders. A sort that the system has not
 /// got, and an index of no hypothesis, are printed as nothing. The only error is want of memory.
-#[tactic(auto, using(crate::proofs::Joined::goal_joined), unfolding(pts_written::specs::Locals::printed_goal))]
+#[tactic(auto, using(crate::proofs::Joined::goal_joined), unfolding(pts_printed::specs::Locals::printed_goal))]
 pub fn print_goal(
     alloc: Global,
     system: &System,

@@ -1,5 +1,5 @@
 ghost use Rattle.std.specs.Prelude.{◌≡◌, ◌++◌, ◌∷◌, [], IfOk, OnOk, ◌≤◌, length};
-ghost use Rattle.pts_written.specs.Choice as choice;
+ghost use Rattle.pts_printed.specs.Choice as choice;
 ghost use Rattle.pts_printer.specs.Calls.{forbidden, texts};
 
 use pts_names::{Name, Text};
@@ -59,7 +59,7 @@ impl<'a> Taken<'a> {
     }
 
     /// The name that is chosen for a variable called `name`, which is used or not.
-    #[tactic(auto, unfolding(pts_written::specs::Choice::choice))]
+    #[tactic(auto, unfolding(pts_printed::specs::Choice::choice))]
     pub(crate) fn choice(&self, alloc: Global, name: &Name, used: bool) -> Result<Text, AllocError>
         ensures { IfOk result (λ text. text ≡ choice.choice name.now used (forbidden self.now)) }
     {

@@ -2,10 +2,10 @@
 
 ghost use Rattle.std.specs.Prelude.{◌≡◌, ◌++◌, ◌∷◌, [], OnOk, codes, get_or};
 ghost use Rattle.pts_names.specs.Name.{same_name};
-ghost use Rattle.pts_syntax.specs.Grammar.{underscore};
+ghost use Rattle.pts_grammar.specs.Grammar.{underscore};
 ghost use Rattle.pts_terms.specs.Seen.{named};
-ghost use Rattle.pts_written.specs.Spelled.{spelled};
-ghost use Rattle.pts_written.specs.Text.{in_parens, is_binding, text_of};
+ghost use Rattle.pts_printed.specs.Spelled.{spelled};
+ghost use Rattle.pts_printed.specs.Text.{in_parens, is_binding, text_of};
 ghost use Rattle.pts_printer.specs.Ahead.{behind, IsTold};
 
 use crate::ahead::Ahead;

@@ -14,7 +14,7 @@ use Rattle.pts_record.proofs.Trees.{bare_behind, at_bare}
 abbrev bare_line : {B : Type 0} → Line B → Line (Unit {0})
 bare_line l = record { form = l.form; ctx = l.ctx; subject = bare l.subject; claim = bare l.claim; first = l.first; second = l.second; third = l.third }
 
-scope_bare : {B : Type 0} (m : Said B) → scope_of (bare_said m) ≡ bare_scope (scope_of m)
+pub scope_bare : {B : Type 0} (m : Said B) → scope_of (bare_said m) ≡ bare_scope (scope_of m)
 scope_bare nothing = refl
 scope_bare (context s) = refl
 scope_bare (judgement c s t T) = refl

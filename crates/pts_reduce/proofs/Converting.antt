@@ -5,10 +5,10 @@ use Rattle.pts_record.specs.declared.shape.Shape.{Shape}
 use Rattle.pts_record.specs.Table.{Tables, named_at, bare_at}
 use Rattle.pts_record.specs.Said.{scope_of}
 use Rattle.pts_record.proofs.Trees.{bare_of_named}
-use Rattle.pts_costs.specs.Costs.{Globals, Entries, leaves, pairing}
-use Rattle.pts_costs.specs.Run.{ends}
-use Rattle.pts_costs.specs.Work.{reduced, Tester, agree, compared, forms_tested, tested}
-use Rattle.pts_costs.proofs.Tests.{compared_at_once, tested_equal, tested_by_forms, forms_reached}
+use Rattle.pts_reduce_cost.specs.Costs.{Globals, Entries, leaves, pairing}
+use Rattle.pts_reduce_cost.specs.Run.{ends}
+use Rattle.pts_reduce_cost.specs.Work.{reduced, Tester, agree, compared, forms_tested, tested}
+use Rattle.pts_reduce_cost.proofs.Tests.{compared_at_once, tested_equal, tested_by_forms, forms_reached}
 use Rattle.pts_grow.specs.Keeps.{Keeps}
 use Rattle.pts_grow.proofs.Grow.{bare_stays, tree_stays, told_stays, keeps_trans}
 use Rattle.pts_reduce.specs.declared.fault.Fault.{Fault}

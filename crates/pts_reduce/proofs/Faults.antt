@@ -5,10 +5,10 @@ use Rattle.std.proofs.lemmas.List.{reverse-append}
 use Rattle.pts_terms.specs.Tree.{Named}
 use Rattle.pts_record.specs.declared.shape.Shape.{Shape}
 use Rattle.pts_record.specs.Table.{named_at}
-use Rattle.pts_costs.specs.Costs.{Globals, Entries}
-use Rattle.pts_costs.specs.Run.{ends, fails, turned, and_then}
-use Rattle.pts_costs.specs.Work.{reduced, of_part, Answer, Tester, agree, both_parts, forms_tested}
-use Rattle.pts_costs.proofs.Tests.{left_deep, left_spent, right_deep, right_spent, first_yes, part_yes, part_differs, part_deep, part_spent}
+use Rattle.pts_reduce_cost.specs.Costs.{Globals, Entries}
+use Rattle.pts_reduce_cost.specs.Run.{ends, fails, turned, and_then}
+use Rattle.pts_reduce_cost.specs.Work.{reduced, of_part, Answer, Tester, agree, both_parts, forms_tested}
+use Rattle.pts_reduce_cost.proofs.Tests.{left_deep, left_spent, right_deep, right_spent, first_yes, part_yes, part_differs, part_deep, part_spent}
 use Rattle.pts_reduce.specs.declared.fault.Found.{Found}
 use Rattle.pts_reduce.specs.declared.fault.Fault.{Fault}
 use Rattle.pts_reduce.specs.declared.fault.Fault.TheVariants.{Spent, Deep, Memory, Differ}

@@ -10,10 +10,10 @@ use Rattle.pts_record.specs.declared.shape.Shape.{Shape}
 use Rattle.pts_record.specs.declared.shape.Shape.TheVariants.{Sort as TheSort, Lam, Pi}
 use Rattle.pts_record.specs.Table.{named_trees, unfold_shape, the_name}
 use Rattle.pts_rules.specs.Step.{head_step, apply_to, definition_at}
-use Rattle.pts_costs.specs.Costs.{Globals, Entries}
-use Rattle.pts_costs.specs.Run.{ends}
-use Rattle.pts_costs.specs.Work.{stepped}
-use Rattle.pts_costs.proofs.Steps.{none_step, made_as, deep_step, spent_step, in_app_none, in_app_made, in_app_large, in_app_deep, in_app_spent}
+use Rattle.pts_reduce_cost.specs.Costs.{Globals, Entries}
+use Rattle.pts_reduce_cost.specs.Run.{ends}
+use Rattle.pts_reduce_cost.specs.Work.{stepped}
+use Rattle.pts_reduce_cost.proofs.Steps.{none_step, made_as, deep_step, spent_step, in_app_none, in_app_made, in_app_large, in_app_deep, in_app_spent}
 use Rattle.pts_grow.specs.declared.fault.TermFault.{TermFault}
 use Rattle.pts_grow.specs.declared.fault.TermFault.TheVariants as made
 use Rattle.pts_grow.specs.Keeps.{WhyNot}

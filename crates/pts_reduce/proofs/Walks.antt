@@ -4,10 +4,10 @@ use Rattle.pts_record.specs.declared.shape.Shape.{Shape}
 use Rattle.pts_record.specs.Table.{Tables, named_at}
 use Rattle.pts_record.specs.Said.{scope_of}
 use Rattle.pts_rules.specs.Step.{head_step}
-use Rattle.pts_costs.specs.Costs.{Globals, Entries}
-use Rattle.pts_costs.specs.Run.{ends}
-use Rattle.pts_costs.specs.Work.{stepped, reduced}
-use Rattle.pts_costs.proofs.Steps.{was_made, reduced_stops, reduced_goes_on, reduced_deep, reduced_spent}
+use Rattle.pts_reduce_cost.specs.Costs.{Globals, Entries}
+use Rattle.pts_reduce_cost.specs.Run.{ends}
+use Rattle.pts_reduce_cost.specs.Work.{stepped, reduced}
+use Rattle.pts_reduce_cost.proofs.Steps.{was_made, reduced_stops, reduced_goes_on, reduced_deep, reduced_spent}
 use Rattle.pts_grow.specs.Keeps.{Keeps, StaysValid}
 use Rattle.pts_grow.proofs.Grow.{keeps_refl, keeps_trans, valid_refl, valid_trans, stays, tree_stays}
 use Rattle.pts_reduce.specs.declared.fault.Fault.{Fault}

@@ -2,8 +2,8 @@
 use Rattle.std.specs.Prelude.{◌≡◌, ◌<◌, ℕ, length}
 use Rattle.pts_terms.specs.Tree.{Named}
 use Rattle.pts_record.specs.Table.{Tables, named_at}
-use Rattle.pts_costs.specs.Costs.{Globals, Entries, yes_, no_, Tests, nesting}
-use Rattle.pts_costs.specs.Laws.{WithinBudget, AboveBudget}
+use Rattle.pts_reduce_cost.specs.Costs.{Globals, Entries, yes_, no_, Tests, nesting}
+use Rattle.pts_reduce_cost.specs.Laws.{WithinBudget, AboveBudget}
 use Rattle.pts_grow.specs.Keeps.{Compares}
 use Rattle.pts_reduce.specs.declared.fault.ReduceFault.{ReduceFault}
 use Rattle.pts_reduce.specs.declared.fault.ReduceFault.TheVariants.{Spent, Deep, Memory}

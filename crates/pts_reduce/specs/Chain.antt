@@ -4,8 +4,8 @@ use Rattle.pts_record.specs.declared.shape.Shape.{Shape}
 use Rattle.pts_record.specs.Table.{Tables, named_at}
 use Rattle.pts_record.specs.Said.{named_told, scope_of}
 use Rattle.pts_rules.specs.Step.{head_step}
-use Rattle.pts_costs.specs.Costs.{Globals, Entries}
-use Rattle.pts_costs.specs.Work.{reduced}
+use Rattle.pts_reduce_cost.specs.Costs.{Globals, Entries}
+use Rattle.pts_reduce_cost.specs.Work.{reduced}
 use Rattle.pts_grow.specs.Keeps.{Keeps, StaysValid}
 
 -- The first of the terms that lead to a form, or the form itself.

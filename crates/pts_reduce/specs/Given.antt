@@ -5,8 +5,8 @@ use Rattle.pts_ctx.specs.Front.{Local, assumed, defined, unknown}
 use Rattle.pts_record.specs.declared.shape.Shape.{Shape}
 use Rattle.pts_record.specs.Table.{named_at}
 use Rattle.pts_rules.specs.Meter.{Units}
-use Rattle.pts_costs.specs.Run.{Run, ends, fails, deep, spent}
-use Rattle.pts_costs.specs.Work.{Difference, Answer}
+use Rattle.pts_reduce_cost.specs.Run.{Run, ends, fails, deep, spent}
+use Rattle.pts_reduce_cost.specs.Work.{Difference, Answer}
 use Rattle.pts_grow.specs.declared.fault.TermFault.{TermFault}
 use Rattle.pts_grow.specs.declared.fault.TermFault.TheVariants as made
 use Rattle.pts_reduce.specs.declared.fault.Found.{Found}

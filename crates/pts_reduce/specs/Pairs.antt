@@ -4,7 +4,7 @@ use Rattle.pts_terms.specs.Tree.{Bare, app, lam, pi, same_term}
 use Rattle.pts_ctx.specs.Front.{unknown}
 use Rattle.pts_record.specs.declared.shape.Shape.{Shape}
 use Rattle.pts_record.specs.Table.{named_at, bare_at}
-use Rattle.pts_costs.specs.Costs.{Entries, leaves, parts, pairing}
+use Rattle.pts_reduce_cost.specs.Costs.{Entries, leaves, parts, pairing}
 use Rattle.pts_reduce.specs.declared.pairs.Parts.{Parts}
 use Rattle.pts_reduce.specs.declared.pairs.Both.{Both}
 use Rattle.pts_reduce.specs.declared.pairs.Paired.{Paired}

@@ -7,8 +7,8 @@ ghost use Rattle.pts_record.specs.Table.{named_at};
 ghost use Rattle.pts_record.specs.Said.{named_told, is_context};
 ghost use Rattle.pts_rules.specs.Meter.{left as units};
 ghost use Rattle.pts_rules.specs.Valid.{IsValid};
-ghost use Rattle.pts_costs.specs.Costs.{Reduces, form, too_large, Tests, beyond, nesting};
-ghost use Rattle.pts_costs.specs.Laws.{WithinBudget};
+ghost use Rattle.pts_reduce_cost.specs.Costs.{Reduces, form, too_large, Tests, beyond, nesting};
+ghost use Rattle.pts_reduce_cost.specs.Laws.{WithinBudget};
 ghost use Rattle.pts_grow.specs.Keeps.{Keeps, Compares};
 ghost use Rattle.pts_reduce.specs.Given.{Later};
 ghost use Rattle.pts_reduce.specs.Chain.{entries_of};
@@ -31,7 +31,7 @@ use pts_rules::Meter;
 ///
 /// `Spent` exactly where the cost is above what the meter has left; the meter then stands at its limit. `Deep` where a
 /// step makes a term beyond the limits. `Memory`. After each of them the record has what it had, and is valid if it was.
-#[tactic(auto, using(pts_grow::proofs::Grow::keeping, crate::proofs::Paid::later, pts_costs::proofs::Exact::reductions_exact, pts_record::proofs::Compared::same_number))]
+#[tactic(auto, using(pts_grow::proofs::Grow::keeping, crate::proofs::Paid::later, pts_reduce_cost::proofs::Exact::reductions_exact, pts_record::proofs::Compared::same_number))]
 pub fn whnf(
     front: &Context,
     proof: &mut Record,
@@ -73,7 +73,7 @@ pub fn whnf(
 /// `Spent` exactly where the cost is above what the meter has left; the meter then stands at its limit. `Deep` where a
 /// step makes a term beyond the limits, or a test is nested deeper. `Memory`. After each of them the record has what it
 /// had, and is valid if it was.
-#[tactic(auto, using(pts_grow::proofs::Grow::keeping, crate::proofs::Paid::later, pts_costs::proofs::Exact::tests_exact))]
+#[tactic(auto, using(pts_grow::proofs::Grow::keeping, crate::proofs::Paid::later, pts_reduce_cost::proofs::Exact::tests_exact))]
 pub fn convert(
     front: &Context,
     proof: &mut Record,

@@ -7,7 +7,7 @@ ghost use Rattle.pts_record.specs.Table.{named_at};
 ghost use Rattle.pts_record.specs.Said.{named_told, is_context};
 ghost use Rattle.pts_rules.specs.Meter.{left as units};
 ghost use Rattle.pts_rules.specs.Valid.{IsValid};
-ghost use Rattle.pts_costs.specs.Work.{reduced};
+ghost use Rattle.pts_reduce_cost.specs.Work.{reduced};
 ghost use Rattle.pts_grow.specs.Keeps.{Keeps, StaysValid, Compares};
 ghost use Rattle.pts_reduce.specs.Given.{Gives, Later};
 ghost use Rattle.pts_reduce.specs.Chain.{IsChain, first_of, entries_of};

@@ -3,8 +3,8 @@
 ghost use Rattle.std.specs.Prelude.{◌≡◌, ◌<◌, ℕ, List, length, false};
 ghost use Rattle.pts_record.specs.declared.shape.Shape.{Shape};
 ghost use Rattle.pts_record.specs.Table.{named_at};
-ghost use Rattle.pts_costs.specs.Run.{turned};
-ghost use Rattle.pts_costs.specs.Work.{Answer, of_part, agree};
+ghost use Rattle.pts_reduce_cost.specs.Run.{turned};
+ghost use Rattle.pts_reduce_cost.specs.Work.{Answer, of_part, agree};
 ghost use Rattle.pts_reduce.specs.Given.{TestFault};
 
 use crate::fault::{Fault, Found};

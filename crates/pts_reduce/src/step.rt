@@ -11,7 +11,7 @@ ghost use Rattle.pts_record.specs.Table.{named_at};
 ghost use Rattle.pts_record.specs.Said.{named_told, scope_of};
 ghost use Rattle.pts_rules.specs.Meter.{left};
 ghost use Rattle.pts_rules.specs.Step.{head_step, body_of, definition_at};
-ghost use Rattle.pts_costs.specs.Work.{stepped};
+ghost use Rattle.pts_reduce_cost.specs.Work.{stepped};
 ghost use Rattle.pts_grow.specs.Keeps.{Keeps, StaysValid};
 ghost use Rattle.pts_reduce.specs.Given.{Gives, Later, body_in};
 

@@ -8,7 +8,7 @@ ghost use Rattle.pts_record.specs.Table.{named_at, bare_at};
 ghost use Rattle.pts_record.specs.Said.{named_told, is_context};
 ghost use Rattle.pts_rules.specs.Meter.{left as units};
 ghost use Rattle.pts_rules.specs.Valid.{IsValid};
-ghost use Rattle.pts_costs.specs.Work.{tested, forms_tested, compared, both_parts};
+ghost use Rattle.pts_reduce_cost.specs.Work.{tested, forms_tested, compared, both_parts};
 ghost use Rattle.pts_grow.specs.Keeps.{Keeps, Compares};
 ghost use Rattle.pts_reduce.specs.Given.{Tested, Later};
 ghost use Rattle.pts_reduce.specs.Chain.{entries_of};
@@ -26,7 +26,7 @@ use pts_rules::Meter;
 
 /// The test of two terms, in which tests may be nested so deep.
 #[cycle(testing)]
-#[tactic(auto, using(pts_grow::proofs::Grow::keeping, crate::proofs::Paid::later, pts_costs::proofs::Tests::tests))]
+#[tactic(auto, using(pts_grow::proofs::Grow::keeping, crate::proofs::Paid::later, pts_reduce_cost::proofs::Tests::tests))]
 pub(crate) fn convert_in(
     front: &Context,
     proof: &mut Record,

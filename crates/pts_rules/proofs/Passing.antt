@@ -2,8 +2,8 @@
 use Rattle.std.proofs.Common.{ℕ, List, [], ◌∷◌, Bool, true, false, ◌≡◌, refl, sym, ap, ◌∙◌, Option, Some, None}
 use Rattle.std.specs.Prelude.{is_some}
 use Rattle.std.specs.Option.{option_map, option_and_then}
-use Rattle.pts_terms.specs.Tree.{Bare, sort, const, var, pi}
-use Rattle.pts_terms.proofs.Same.{same_term_eq}
+use Rattle.pts_terms.specs.Tree.{Bare, sort, const, var, pi, same_term}
+use Rattle.pts_terms.proofs.Same.{same_term_eq, same_term_self}
 use Rattle.pts_ctx.proofs.Find.{some_same}
 use Rattle.pts_rules.specs.declared.why.Why.{Why}
 use Rattle.pts_rules.specs.Parts.{sort_in, const_in, var_in, domain_in, codomain_in, is_that}
@@ -28,6 +28,9 @@ none_fails (t ∷ ts) h = rw h.0 (none_fails ts h.1)
 pub neither : (v w : Option Why) → or_fault v w ≡ None → (v ≡ None) × (w ≡ None)
 neither None w h = (refl, h)
 neither (Some v) w h = absurd (cc h)
+
+pub all_in_order : (kinds places terms : List (Bool × Why)) → AllPass kinds → AllPass places → AllPass terms → in_order kinds places terms ≡ None
+all_in_order kinds places terms k p t = rw (none_fails kinds k, none_fails places p, none_fails terms t) refl
 
 pub ordered_pass : (kinds places terms : List (Bool × Why)) → in_order kinds places terms ≡ None → AllPass kinds × AllPass places × AllPass terms
 ordered_pass kinds places terms h =
@@ -55,6 +58,9 @@ then_is f (Some a) b h = (a, refl, h)
 -- What is made of a known part.
 pub map_of : {A B : Type 0} (f : A → B) {o : Option A} {a : A} {b : B} → o ≡ Some a → option_map f o ≡ Some b → f a ≡ b
 map_of f p q = some_same (sym (ap (option_map f) p) ∙ q)
+
+pub is_same : {t u : Bare} → t ≡ u → same_term t u ≡ true
+is_same {t} {u} e = rw e (same_term_self u)
 
 pub that_is : (t : Bare) (o : Option Bare) → is_that t o ≡ true → o ≡ Some t
 that_is t None h = absurd (cc h)

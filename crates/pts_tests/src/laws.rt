@@ -10,32 +10,32 @@ fn the_laws_can_be_called() {
     pts_rules::longer_fronts_have_entries();
     pts_rules::judgements_are_scoped();
     pts_rules::head_steps_are_steps();
-    pts_costs::reduction_has_one_outcome();
-    pts_costs::tests_have_one_outcome();
-    pts_costs::reduction_is_exact();
-    pts_costs::tests_are_exact();
-    pts_costs::forms_are_convertible();
-    pts_costs::tests_are_sound();
+    pts_reduce_cost::reduction_has_one_outcome();
+    pts_reduce_cost::tests_have_one_outcome();
+    pts_reduce_cost::reduction_is_exact();
+    pts_reduce_cost::tests_are_exact();
+    pts_reduce_cost::forms_are_convertible();
+    pts_reduce_cost::tests_are_sound();
 }
 
 #[test]
 fn the_laws_of_inference_can_be_called() {
-    pts_typing::inference_has_one_outcome();
-    pts_typing::sorts_have_one_outcome();
-    pts_typing::sort_tests_have_one_outcome();
-    pts_typing::fits_have_one_outcome();
-    pts_typing::inference_is_exact();
-    pts_typing::sorts_are_exact();
-    pts_typing::sort_tests_are_exact();
-    pts_typing::fits_are_exact();
-    pts_typing::inference_is_sound();
-    pts_typing::sorts_are_sound();
-    pts_typing::sort_tests_are_sound();
-    pts_typing::fits_are_sound();
-    pts_typing::flaws_are_scoped();
-    pts_typing::flaws_of_sorts_are_scoped();
-    pts_typing::flaws_of_sort_tests_are_scoped();
-    pts_typing::flaws_of_fits_are_scoped();
+    pts_infer_cost::inference_has_one_outcome();
+    pts_infer_cost::sorts_have_one_outcome();
+    pts_infer_cost::sort_tests_have_one_outcome();
+    pts_infer_cost::fits_have_one_outcome();
+    pts_infer_cost::inference_is_exact();
+    pts_infer_cost::sorts_are_exact();
+    pts_infer_cost::sort_tests_are_exact();
+    pts_infer_cost::fits_are_exact();
+    pts_infer_cost::inference_is_sound();
+    pts_infer_cost::sorts_are_sound();
+    pts_infer_cost::sort_tests_are_sound();
+    pts_infer_cost::fits_are_sound();
+    pts_infer_cost::flaws_are_scoped();
+    pts_infer_cost::flaws_of_sorts_are_scoped();
+    pts_infer_cost::flaws_of_sort_tests_are_scoped();
+    pts_infer_cost::flaws_of_fits_are_scoped();
 }
 
 fn pays(meter: &mut Meter, units: u64, spent: u64) -> bool {

@@ -1,5 +1,5 @@
-//! Tests of the libraries on which the program stands, of the laws, and of reduction: a small module for each part.
-//! The proofs say what each call answers for every input; these calls show that it answers, and in one worked case what.
+//! Tests that cross crates: of the libraries on which the program stands, of the laws, of reduction and inference.
+//! The proofs say what each call answers for every input; these calls show that it answers, and in a worked case what.
 //! No crate stands on it.
 #![tactic(auto)]
 
@@ -11,6 +11,8 @@ mod checks;
 mod contexts;
 #[cfg(test)]
 mod growths;
+#[cfg(test)]
+mod inference;
 #[cfg(test)]
 mod laws;
 #[cfg(test)]

@@ -4,11 +4,11 @@ use Rattle.pts_terms.specs.Tree.{sort, app, lam, pi, named_pi, named_let}
 use Rattle.pts_ctx.specs.System.{axiom_of, rule_of}
 use Rattle.pts_record.specs.Table.{named_at, named_trees, unfold_shape, the_name}
 use Rattle.pts_rules.specs.Meter.{left}
-use Rattle.pts_typing.specs.Typing.{here, not_product, by_axiom, by_rule, comes, made}
-use Rattle.pts_typing.specs.Inference.{inferred, gives, product_body, body_sorted, argument_fitted, definition_type, fitted, fit_tested, types_compared, typed_by_form}
-use Rattle.pts_typing.proofs.Steps.{inferred_too_deep, typed_sort}
+use Rattle.pts_infer_cost.specs.Typing.{here, not_product, by_axiom, by_rule, comes, made}
+use Rattle.pts_infer_cost.specs.Inference.{inferred, gives, product_body, body_sorted, argument_fitted, definition_type, fitted, fit_tested, types_compared, typed_by_form}
+use Rattle.pts_infer_cost.proofs.Steps.{inferred_too_deep, typed_sort}
 use Rattle.pts_grow.proofs.Grow.{stays, node_stays, tree_stays, keeps_trans}
-use Rattle.pts_judge.proofs.Nodes.{still_typed, still_judges, still_assume, still_define}
+use Rattle.pts_grow.proofs.Judgements.{still_typed, still_judges, still_assume, still_define}
 use Rattle.pts_reduce.specs.Chain.{entries_of}
 use Rattle.pts_infer.specs.Given.{type_of, ToldAs}
 use Rattle.pts_infer.proofs.Runs.{gives_as, fits_as, parts_there, let_there, still_function}

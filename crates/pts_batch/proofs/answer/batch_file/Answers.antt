@@ -1,7 +1,7 @@
 use Rattle.std.proofs.Common.{◌≡◌, ◌++◌, sym}
 use Rattle.std.specs.Prelude.{codes}
 use Rattle.std.specs.Fmt.{decimal}
-use Rattle.pts_module.specs.File.{file_of}
+use Rattle.pts_module_file.specs.File.{file_of}
 use Rattle.pts_batch.specs.Batches.{Answers, refusal}
 use Rattle.pts_batch.specs.Shown.{answer_seen}
 use Rattle.pts_batch.proofs.Answering.{both_ok, not_built_answer, nothing_evident}

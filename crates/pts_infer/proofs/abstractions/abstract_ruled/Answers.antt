@@ -1,5 +1,5 @@
-use Rattle.pts_typing.specs.Typing.{here, no_rule, by_rule, made}
-use Rattle.pts_typing.specs.Inference.{gives}
+use Rattle.pts_infer_cost.specs.Typing.{here, no_rule, by_rule, made}
+use Rattle.pts_infer_cost.specs.Inference.{gives}
 use Rattle.pts_ctx.specs.System.{rule_of}
 use Rattle.pts_terms.specs.Tree.{named_pi}
 use Rattle.std.proofs.Common.{sym, refl}
@@ -7,7 +7,7 @@ use Rattle.pts_record.specs.Table.{named_at}
 use Rattle.pts_infer.proofs.Outwards.{found}
 use Rattle.pts_terms.specs.Tree.{lam}
 use Rattle.pts_infer.proofs.Runs.{parts_there, made_pi}
-use Rattle.pts_typing.proofs.Ends.{abstraction_unruled}
+use Rattle.pts_infer_cost.proofs.Ends.{abstraction_unruled}
 use Rattle.pts_infer.proofs.abstractions.abstract_ruled.Goals as goal
 
 pub returns-in-None-clause-runs : goal.returns-in-None-clause-runs

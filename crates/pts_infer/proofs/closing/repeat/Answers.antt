@@ -2,8 +2,8 @@ use Rattle.std.proofs.Common.{refl}
 use Rattle.pts_record.specs.Table.{bare_at, named_trees}
 use Rattle.pts_record.specs.Said.{named_told, line_of}
 use Rattle.pts_grow.proofs.Grow.{node_keeps, node_says, node_valid, same_keeps}
-use Rattle.pts_judge.proofs.Nodes.{new_judges}
-use Rattle.pts_judge.proofs.Converted.{thin_ok, itself_told, unlifted}
+use Rattle.pts_grow.proofs.Judgements.{new_judges}
+use Rattle.pts_grow.proofs.Converted.{thin_ok, itself_told, unlifted}
 use Rattle.pts_infer.proofs.Conclusions.{last_node, same_shapes, thin_of}
 use Rattle.pts_infer.proofs.closing.repeat.Goals as goal
 

@@ -3,7 +3,7 @@ use Rattle.pts_record.specs.Table.{named_at}
 use Rattle.pts_rules.specs.Meter.{left}
 use Rattle.pts_terms.specs.Tree.{const}
 use Rattle.pts_ctx.specs.Entries.{global_of}
-use Rattle.pts_judge.proofs.Plain.{plain, constant_found}
+use Rattle.pts_grow.proofs.Plain.{plain, constant_found}
 use Rattle.pts_grow.proofs.Grow.{tree_stays}
 use Rattle.pts_infer.specs.Given.{type_of}
 use Rattle.pts_infer.proofs.Atoms.{constant_there}

@@ -1,9 +1,9 @@
-use Rattle.pts_typing.specs.Typing.{here, no_axiom, by_axiom}
-use Rattle.pts_typing.specs.Inference.{gives}
+use Rattle.pts_infer_cost.specs.Typing.{here, no_axiom, by_axiom}
+use Rattle.pts_infer_cost.specs.Inference.{gives}
 use Rattle.pts_ctx.specs.System.{axiom_of}
 use Rattle.std.proofs.Common.{sym}
 use Rattle.pts_infer.proofs.Outwards.{found}
-use Rattle.pts_typing.proofs.Ends.{axiom_missing}
+use Rattle.pts_infer_cost.proofs.Ends.{axiom_missing}
 use Rattle.pts_infer.proofs.leaves.infer_sort.Goals as goal
 
 pub returns-in-None-clause-runs : goal.returns-in-None-clause-runs

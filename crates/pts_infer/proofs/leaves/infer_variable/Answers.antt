@@ -3,7 +3,7 @@ use Rattle.pts_record.specs.Table.{named_at}
 use Rattle.pts_rules.specs.Meter.{left}
 use Rattle.pts_reduce.specs.Chain.{entries_of}
 use Rattle.pts_terms.specs.Tree.{var, lift}
-use Rattle.pts_judge.proofs.Plain.{plain}
+use Rattle.pts_grow.proofs.Plain.{plain}
 use Rattle.pts_grow.proofs.Grow.{tree_stays}
 use Rattle.pts_infer.proofs.Atoms.{variable_there}
 use Rattle.pts_infer.proofs.leaves.infer_variable.Goals as goal

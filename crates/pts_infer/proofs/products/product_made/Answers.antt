@@ -1,11 +1,11 @@
-use Rattle.pts_typing.specs.Typing.{here, no_rule, by_rule, comes}
-use Rattle.pts_typing.specs.Inference.{gives}
+use Rattle.pts_infer_cost.specs.Typing.{here, no_rule, by_rule, comes}
+use Rattle.pts_infer_cost.specs.Inference.{gives}
 use Rattle.pts_ctx.specs.System.{rule_of}
 use Rattle.pts_terms.specs.Tree.{sort}
 use Rattle.std.proofs.Common.{sym, ap, ◌∙◌}
 use Rattle.pts_infer.proofs.Outwards.{found}
-use Rattle.pts_costs.specs.Run.{ends}
-use Rattle.pts_typing.proofs.Ends.{product_ruled, product_unruled}
+use Rattle.pts_reduce_cost.specs.Run.{ends}
+use Rattle.pts_infer_cost.proofs.Ends.{product_ruled, product_unruled}
 use Rattle.pts_infer.proofs.products.product_made.Goals as goal
 
 pub returns-in_ok-judge_product-in-Some-clause-runs : goal.returns-in_ok-judge_product-in-Some-clause-runs

@@ -1,10 +1,10 @@
 use Rattle.std.proofs.Common.{◌≡◌, [], subst}
 use Rattle.pts_record.specs.Table.{named_at}
 use Rattle.pts_rules.specs.Meter.{left}
-use Rattle.pts_costs.specs.Run.{ends}
-use Rattle.pts_typing.specs.Typing.{Fits}
-use Rattle.pts_typing.specs.Inference.{inferred, fitted}
-use Rattle.pts_typing.proofs.Exact.{fit_within, fit_exact}
+use Rattle.pts_reduce_cost.specs.Run.{ends}
+use Rattle.pts_infer_cost.specs.Typing.{Fits}
+use Rattle.pts_infer_cost.specs.Inference.{inferred, fitted}
+use Rattle.pts_infer_cost.proofs.Exact.{fit_within, fit_exact}
 use Rattle.pts_infer.specs.Given.{MisfitsWith}
 use Rattle.pts_infer.proofs.Refusals.{unfit_as}
 use Rattle.pts_infer.proofs.terms.fit_judged.Goals as goal

@@ -1,8 +1,8 @@
 use Rattle.std.proofs.Common.{◌≡◌, [], subst}
 use Rattle.pts_record.specs.Table.{named_at}
 use Rattle.pts_rules.specs.Meter.{left}
-use Rattle.pts_costs.specs.Run.{ends}
-use Rattle.pts_typing.specs.Inference.{inferred}
+use Rattle.pts_reduce_cost.specs.Run.{ends}
+use Rattle.pts_infer_cost.specs.Inference.{inferred}
 use Rattle.pts_grow.proofs.Grow.{tree_stays}
 use Rattle.pts_infer.specs.Given.{StopsWith}
 use Rattle.pts_infer.proofs.Conclusions.{both_fit, both_refused, judged_refused}

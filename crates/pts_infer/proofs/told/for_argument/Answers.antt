@@ -1,5 +1,5 @@
 use Rattle.std.proofs.Common.{sym, subst}
-use Rattle.pts_typing.specs.Typing.{of_argument}
+use Rattle.pts_infer_cost.specs.Typing.{of_argument}
 use Rattle.pts_record.specs.Table.{named_at}
 use Rattle.pts_infer.specs.Given.{ToldOf}
 use Rattle.pts_infer.proofs.Outwards.{unfitting, own_argument}

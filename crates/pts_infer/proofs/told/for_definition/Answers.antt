@@ -1,5 +1,5 @@
 use Rattle.std.proofs.Common.{sym, subst}
-use Rattle.pts_typing.specs.Typing.{of_definition}
+use Rattle.pts_infer_cost.specs.Typing.{of_definition}
 use Rattle.pts_infer.specs.Given.{ToldOf}
 use Rattle.pts_infer.proofs.Outwards.{wanted_type, own_value}
 use Rattle.pts_infer.proofs.told.for_definition.Goals as goal

@@ -1,5 +1,5 @@
 use Rattle.std.proofs.Common.{sym, subst}
-use Rattle.pts_typing.specs.Typing.{into}
+use Rattle.pts_infer_cost.specs.Typing.{into}
 use Rattle.pts_infer.specs.Given.{ToldAs}
 use Rattle.pts_infer.proofs.told.into_part.Goals as goal
 

@@ -1,4 +1,4 @@
-use Rattle.pts_typing.specs.Typing.{here}
+use Rattle.pts_infer_cost.specs.Typing.{here}
 use Rattle.pts_infer.specs.Given.{kind_of}
 use Rattle.pts_infer.proofs.Outwards.{own_here}
 use Rattle.pts_infer.proofs.told.misfit_here.Goals as goal

@@ -1,5 +1,5 @@
 use Rattle.std.proofs.Common.{sym, subst}
-use Rattle.pts_typing.specs.Typing.{under}
+use Rattle.pts_infer_cost.specs.Typing.{under}
 use Rattle.pts_infer.specs.Given.{ToldAs}
 use Rattle.pts_infer.proofs.told.under_binder.Goals as goal
 

@@ -1,4 +1,4 @@
-use Rattle.pts_typing.specs.Typing.{here, under, not_a_sort}
+use Rattle.pts_infer_cost.specs.Typing.{here, under, not_a_sort}
 use Rattle.pts_record.specs.Table.{named_at}
 use Rattle.pts_infer.proofs.Outwards.{found_told}
 use Rattle.pts_infer.proofs.told.unsorted_behind.Goals as goal

@@ -1,7 +1,7 @@
 use Rattle.std.proofs.Common.{subst, length}
 use Rattle.std.proofs.lemmas.Str.{IsCharBoundary-start}
-use Rattle.pts_syntax.specs.Seen.{within}
-use Rattle.pts_syntax.specs.Open.{more}
+use Rattle.pts_grammar.specs.Seen.{within}
+use Rattle.pts_grammar.specs.Open.{more}
 use Rattle.pts_lines.specs.Seen.{declaration_of}
 use Rattle.pts_lines.specs.Forms.{AnswersAs, run_declaration}
 use Rattle.pts_lines.proofs.Lines.{declares, declares_shallow, declaration_few, declares_not, declaration_exact}

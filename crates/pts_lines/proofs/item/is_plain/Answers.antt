@@ -1,7 +1,7 @@
 use Rattle.std.proofs.Common.{sym, ◌∙◌, ap, not, nat_eq}
 use Rattle.std.specs.Cmp.Lexicographic.{pointwise}
 use Rattle.pts_names.proofs.Same.{same_name-pointwise}
-use Rattle.pts_syntax.specs.Grammar.{underscore}
+use Rattle.pts_grammar.specs.Grammar.{underscore}
 use Rattle.pts_parser.proofs.Places.{plain_is}
 use Rattle.pts_lines.proofs.item.is_plain.Goals as goal
 

@@ -1,7 +1,7 @@
 use Rattle.std.proofs.Common.{subst, length}
 use Rattle.std.proofs.lemmas.Str.{IsCharBoundary-start}
-use Rattle.pts_syntax.specs.Seen.{within}
-use Rattle.pts_syntax.specs.Open.{more}
+use Rattle.pts_grammar.specs.Seen.{within}
+use Rattle.pts_grammar.specs.Open.{more}
 use Rattle.pts_lines.specs.Seen.{line_of}
 use Rattle.pts_lines.specs.Forms.{AnswersAs, run_line}
 use Rattle.pts_lines.proofs.Lines.{says, shallow, line_few, refuses, line_exact}

@@ -1,6 +1,6 @@
 use Rattle.std.proofs.Common.{◌≡◌, map, ◌++◌, option_map}
 use Rattle.std.specs.Vec.Iter.{into_iter_items}
-use Rattle.pts_syntax.specs.Seen.{part_of, syntax_of}
+use Rattle.pts_grammar.specs.Seen.{part_of, syntax_of}
 use Rattle.pts_lines.specs.Forms.{all_of}
 use Rattle.pts_lines.proofs.term.all.Given as goal
 

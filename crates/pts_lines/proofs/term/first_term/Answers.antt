@@ -1,6 +1,6 @@
 use Rattle.std.proofs.Common.{sym, ◌∙◌, ap}
-use Rattle.pts_syntax.specs.Seen.{part_of}
-use Rattle.pts_syntax.specs.Open.{outcome_of}
+use Rattle.pts_grammar.specs.Seen.{part_of}
+use Rattle.pts_grammar.specs.Open.{outcome_of}
 use Rattle.pts_lines.proofs.Kept.{term_is}
 use Rattle.pts_lines.proofs.term.first_term.Goals as goal
 

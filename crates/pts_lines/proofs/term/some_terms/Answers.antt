@@ -1,8 +1,8 @@
 use Rattle.std.proofs.Common.{◌∙◌, ap, pred, map, option_map, subst}
 use Rattle.std.specs.Prelude.{Ok, length}
 use Rattle.std.proofs.lemmas.Result.{err_from_is_err_and}
-use Rattle.pts_syntax.specs.Seen.{part_of, within}
-use Rattle.pts_syntax.specs.Open.{more}
+use Rattle.pts_grammar.specs.Seen.{part_of, within}
+use Rattle.pts_grammar.specs.Open.{more}
 use Rattle.pts_lines.specs.Forms.{some_of}
 use Rattle.pts_lines.proofs.Several.{Left, first_fails, last_is, next_is, is_shorter, with_part}
 use Rattle.pts_lines.proofs.term.some_terms.Goals as goal

@@ -1,8 +1,8 @@
 use Rattle.std.proofs.Common.{◌≡◌, ◌≤◌, ℕ, length, map, ◌++◌}
 use Rattle.std.specs.Prelude.{Ok}
 use Rattle.pts_parser.specs.Resolution.{and_then}
-use Rattle.pts_syntax.specs.Seen.{part_of, within}
-use Rattle.pts_syntax.specs.Open.{more}
+use Rattle.pts_grammar.specs.Seen.{part_of, within}
+use Rattle.pts_grammar.specs.Open.{more}
 use Rattle.pts_lines.specs.Forms.{some_of}
 use Rattle.pts_lines.proofs.term.some_terms.Given as goal
 

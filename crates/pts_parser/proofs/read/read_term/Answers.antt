@@ -1,7 +1,7 @@
 use Rattle.std.proofs.Common.{Ok, Err, reverse}
 use Rattle.std.specs.Prelude.{Result, IfErr}
 use Rattle.pts_terms.specs.declared.term.Term.{Term}
-use Rattle.pts_syntax.specs.Seen.{syntax_of}
+use Rattle.pts_grammar.specs.Seen.{syntax_of}
 use Rattle.pts_parser.specs.declared.fault.ReadFault.{ReadFault}
 use Rattle.pts_parser.specs.Resolution.{resolved, Answers}
 use Rattle.pts_parser.specs.Reading.{RefusesTerm}

@@ -1,6 +1,6 @@
 use Rattle.std.proofs.Common.{◌≡◌, ◌++◌, [], drop, map, reverse, take}
 use Rattle.pts_terms.specs.Seen.{named}
-use Rattle.pts_written.specs.Locals.{comma_joined, hypotheses}
+use Rattle.pts_printed.specs.Locals.{comma_joined, hypotheses}
 use Rattle.pts_printer.specs.Commas.{commas}
 use Rattle.pts_printer.proofs.goal.hypotheses_at.Given as goal
 

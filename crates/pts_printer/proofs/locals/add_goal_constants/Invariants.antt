@@ -1,6 +1,6 @@
 use Rattle.std.proofs.Common.{◌≡◌, ◌++◌, drop, map}
 use Rattle.pts_terms.specs.Seen.{named}
-use Rattle.pts_written.specs.Locals.{goal_constants}
+use Rattle.pts_printed.specs.Locals.{goal_constants}
 use Rattle.pts_printer.proofs.locals.add_goal_constants.Given as goal
 
 abbrev pub invariant-loop-ty : goal.invariant-loop-ty

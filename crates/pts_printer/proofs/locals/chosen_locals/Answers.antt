@@ -1,8 +1,8 @@
 use Rattle.std.proofs.Common.{◌∙◌, ap, ◌++◌, ◌-◌, ◌&&◌, length}
 use Rattle.pts_names.specs.Name.{same_name}
-use Rattle.pts_syntax.specs.Grammar.{underscore}
+use Rattle.pts_grammar.specs.Grammar.{underscore}
 use Rattle.pts_terms.specs.Seen.{named}
-use Rattle.pts_written.specs.Choice.{choice, constants, occurs}
+use Rattle.pts_printed.specs.Choice.{choice, constants, occurs}
 use Rattle.pts_printer.proofs.InOrder.{local_named}
 use Rattle.pts_printer.proofs.locals.chosen_locals.Goals as goal
 

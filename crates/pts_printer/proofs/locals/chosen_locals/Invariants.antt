@@ -1,7 +1,7 @@
 use Rattle.std.proofs.Common.{◌≡◌, ◌++◌, [], drop}
 use Rattle.pts_terms.specs.Seen.{named}
-use Rattle.pts_written.specs.Choice.{constants}
-use Rattle.pts_written.specs.Locals.{named_locals, uses}
+use Rattle.pts_printed.specs.Choice.{constants}
+use Rattle.pts_printed.specs.Locals.{named_locals, uses}
 use Rattle.pts_printer.proofs.locals.chosen_locals.Given as goal
 
 abbrev pub invariant-loop-place : goal.invariant-loop-place

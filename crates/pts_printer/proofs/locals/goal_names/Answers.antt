@@ -1,10 +1,10 @@
 use Rattle.std.proofs.Common.{◌≡◌, ◌∙◌, ap, ◌++◌, ◌+◌, ◌-◌, ◌&&◌, drop, map, take, length, arith}
 use Rattle.std.proofs.lemmas.List.{take_all, length-drop}
 use Rattle.pts_names.specs.Name.{same_name}
-use Rattle.pts_syntax.specs.Grammar.{underscore}
+use Rattle.pts_grammar.specs.Grammar.{underscore}
 use Rattle.pts_terms.specs.Seen.{named}
-use Rattle.pts_written.specs.Choice.{choice}
-use Rattle.pts_written.specs.Locals.{goal_constants, occurs_behind}
+use Rattle.pts_printed.specs.Choice.{choice}
+use Rattle.pts_printed.specs.Locals.{goal_constants, occurs_behind}
 use Rattle.pts_printer.proofs.InOrder.{hypothesis_named, one_longer}
 use Rattle.pts_printer.proofs.locals.goal_names.Goals as goal
 

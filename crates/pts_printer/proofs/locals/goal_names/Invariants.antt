@@ -1,6 +1,6 @@
 use Rattle.std.proofs.Common.{◌≡◌, ◌++◌, [], drop, length, map}
 use Rattle.pts_terms.specs.Seen.{named}
-use Rattle.pts_written.specs.Locals.{named_locals, goal_uses, goal_constants}
+use Rattle.pts_printed.specs.Locals.{named_locals, goal_uses, goal_constants}
 use Rattle.pts_printer.proofs.locals.goal_names.Given as goal
 
 abbrev pub invariant-loop-place : goal.invariant-loop-place

@@ -1,6 +1,6 @@
 use Rattle.std.proofs.Common.{◌≡◌, drop, map}
 use Rattle.pts_terms.specs.Seen.{named}
-use Rattle.pts_written.specs.Locals.{occurs_behind}
+use Rattle.pts_printed.specs.Locals.{occurs_behind}
 use Rattle.pts_printer.proofs.locals.occurs_behind.Given as goal
 
 abbrev pub invariant-loop-place : goal.invariant-loop-place

@@ -1,5 +1,5 @@
 use Rattle.std.proofs.Common.{◌≡◌, drop}
-use Rattle.pts_written.specs.Choice.{is_among}
+use Rattle.pts_printed.specs.Choice.{is_among}
 use Rattle.pts_printer.specs.Calls.{texts}
 use Rattle.pts_printer.proofs.taken.is_constant.Given as goal
 

@@ -1,5 +1,5 @@
 use Rattle.std.proofs.Common.{◌≡◌, drop}
-use Rattle.pts_written.specs.Choice.{is_among}
+use Rattle.pts_printed.specs.Choice.{is_among}
 use Rattle.pts_printer.proofs.taken.is_variable.Given as goal
 
 abbrev pub invariant-loop-known : goal.invariant-loop-known

@@ -4,9 +4,9 @@ use Rattle.std.specs.Prelude.{IfSome}
 use Rattle.pts_record.specs.Table.{named_at}
 use Rattle.pts_rules.specs.Meter.{left}
 use Rattle.pts_rules.specs.Step.{head_step}
-use Rattle.pts_costs.specs.Run.{ends}
-use Rattle.pts_costs.specs.Work.{stepped}
-use Rattle.pts_costs.proofs.Steps.{was_made}
+use Rattle.pts_reduce_cost.specs.Run.{ends}
+use Rattle.pts_reduce_cost.specs.Work.{stepped}
+use Rattle.pts_reduce_cost.proofs.Steps.{was_made}
 use Rattle.pts_grow.proofs.Grow.{keeps_trans, tree_stays}
 use Rattle.pts_reduce.specs.Chain.{Walk, entries_of}
 use Rattle.pts_reduce.proofs.Paid.{later_refl, later_trans}

@@ -5,9 +5,9 @@ use Rattle.pts_record.specs.Table.{AllBelow, shape_links, named_at, named_trees,
 use Rattle.pts_record.specs.Said.{named_told, scope_of}
 use Rattle.pts_rules.specs.Meter.{left}
 use Rattle.pts_rules.specs.Step.{head_step}
-use Rattle.pts_costs.specs.Run.{ends}
-use Rattle.pts_costs.specs.Work.{stepped}
-use Rattle.pts_costs.proofs.Steps.{none_step}
+use Rattle.pts_reduce_cost.specs.Run.{ends}
+use Rattle.pts_reduce_cost.specs.Work.{stepped}
+use Rattle.pts_reduce_cost.proofs.Steps.{none_step}
 use Rattle.pts_grow.proofs.Grow.{tree_stays}
 use Rattle.pts_reduce.proofs.Stepping.{made_in, steps_inside, has_no_step}
 use Rattle.pts_reduce.proofs.step.+step.Goals as goal

@@ -1,6 +1,6 @@
 use Rattle.std.proofs.Common.{refl}
 use Rattle.pts_rules.specs.Meter.{left}
-use Rattle.pts_costs.proofs.Steps.{made_as}
+use Rattle.pts_reduce_cost.proofs.Steps.{made_as}
 use Rattle.pts_reduce.proofs.step.contract.Goals as goal
 
 pub returns-clause-runs : goal.returns-clause-runs

@@ -3,7 +3,7 @@ use Rattle.std.specs.Option.{option_map}
 use Rattle.pts_terms.specs.Seen.{named}
 use Rattle.pts_rules.specs.Meter.{left}
 use Rattle.pts_rules.specs.Step.{body_of}
-use Rattle.pts_costs.proofs.Steps.{made_as}
+use Rattle.pts_reduce_cost.proofs.Steps.{made_as}
 use Rattle.pts_reduce.proofs.step.unfold.Goals as goal
 
 pub returns-clause-runs : goal.returns-clause-runs

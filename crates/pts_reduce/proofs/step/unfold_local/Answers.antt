@@ -4,7 +4,7 @@ use Rattle.pts_ctx.specs.Front.{entry_at}
 use Rattle.pts_record.specs.Table.{named_at}
 use Rattle.pts_record.specs.Said.{named_told, scope_of}
 use Rattle.pts_rules.specs.Meter.{left}
-use Rattle.pts_costs.proofs.Steps.{made_as}
+use Rattle.pts_reduce_cost.proofs.Steps.{made_as}
 use Rattle.pts_reduce.proofs.Stepping.{local_made}
 use Rattle.pts_reduce.proofs.step.unfold_local.Goals as goal
 

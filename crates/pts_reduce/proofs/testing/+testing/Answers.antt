@@ -3,8 +3,8 @@ use Rattle.pts_terms.specs.Tree.{app, lam, pi}
 use Rattle.pts_ctx.specs.Front.{unknown}
 use Rattle.pts_record.specs.Table.{named_at}
 use Rattle.pts_rules.specs.Meter.{left}
-use Rattle.pts_costs.specs.Work.{tested, forms_tested}
-use Rattle.pts_costs.proofs.Tests.{tested_too_deep, compared_by_parts}
+use Rattle.pts_reduce_cost.specs.Work.{tested, forms_tested}
+use Rattle.pts_reduce_cost.proofs.Tests.{tested_too_deep, compared_by_parts}
 use Rattle.pts_grow.proofs.Grow.{keeps_trans, node_stays}
 use Rattle.pts_reduce.specs.Given.{TestFault, Tested}
 use Rattle.pts_reduce.specs.Chain.{entries_of}

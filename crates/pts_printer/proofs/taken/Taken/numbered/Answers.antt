@@ -1,6 +1,6 @@
 use Rattle.std.proofs.Common.{◌≡◌, ◌+◌, ◌++◌, true, sym, ◌∙◌, ap}
 use Rattle.std.specs.Prelude.{decimal}
-use Rattle.pts_written.specs.Choice.{is_among}
+use Rattle.pts_printed.specs.Choice.{is_among}
 use Rattle.pts_printer.specs.Calls.{forbidden}
 use Rattle.pts_printer.proofs.Names.{number_passed}
 use Rattle.pts_printer.proofs.taken.Taken.numbered.Goals as goal

@@ -1,5 +1,5 @@
 use Rattle.std.proofs.Common.{◌≡◌, ◌-◌, ◌+◌, length}
-use Rattle.pts_written.specs.Choice.{numbered}
+use Rattle.pts_printed.specs.Choice.{numbered}
 use Rattle.pts_printer.specs.Calls.{forbidden}
 use Rattle.pts_printer.proofs.taken.Taken.numbered.Given as goal
 

@@ -1,0 +1,233 @@
+ghost use Rattle.std.specs.Prelude.{◌≡◌, true, false, MatchOption, Some, None, IfOk, OnOk, take, drop, if◌then◌else◌};
+ghost use Rattle.std.specs.Str.{is_utf8};
+ghost use Rattle.pts_names.specs.Name.{same_name};
+ghost use Rattle.pts_parser.specs.Resolution.{is_plain};
+ghost use Rattle.pts_lines.specs.Reading.{declaration_said, declared_first};
+ghost use Rattle.pts_lines.specs.Seen.{declaration_of};
+ghost use Rattle.pts_module_file.specs.File.{AnswersAs, entry_of, IsRead};
+ghost use Rattle.pts_module_file.specs.Lines as lines;
+ghost use Rattle.pts_module_file.specs.Lines.{is_short, is_short_text, is_passed, has_short_name, name_of};
+
+use crate::fault::{Refusal, Why};
+use crate::stage::{Item, Stage, behind, may_declare};
+use pts_lines::{Declaration, Declaring, declaring_word, read_declaration};
+use pts_names::{Name, NameFault};
+use pts_parser::ReadFault;
+use std::alloc::{AllocError, Global};
+
+/// What a line is at a stage of the file of the module with this name, and the stage behind it.
+pub(crate) fn line_at(
+    alloc: Global,
+    asked: &Name,
+    stage: Stage,
+    line: &[u8],
+) -> Result<(Stage, Item), Refusal>
+    ensures { AnswersAs (λ r. (r.0, entry_of r.1)) result (lines.line_at asked.now stage line.now) }
+{
+    let Some(text) = text_of(line) else {
+        return Err(Refusal::Because(Why::Form));
+    };
+    if is_passed(line) {
+        return Ok((stage, Item::Passed));
+    }
+    staged_line(alloc, asked, stage, line, text)
+}
+
+/// The same of a text that says something.
+fn staged_line(
+    alloc: Global,
+    asked: &Name,
+    stage: Stage,
+    line: &[u8],
+    text: &str,
+) -> Result<(Stage, Item), Refusal>
+    requires { text.now ≡ line.now }
+    ensures { AnswersAs (λ r. (r.0, entry_of r.1)) result (lines.staged_line asked.now stage line.now) }
+{
+    match stage {
+        Stage::Format => format_line(line),
+        Stage::Module => module_line(asked, line),
+        Stage::Uses => uses_line(alloc, line, text),
+        Stage::Parameters => later_line(alloc, Stage::Parameters, text),
+        Stage::Declarations => later_line(alloc, Stage::Declarations, text),
+        Stage::Ended => Err(Refusal::Because(Why::Form)),
+    }
+}
+
+/// The first line.
+fn format_line(line: &[u8]) -> Result<(Stage, Item), Refusal>
+    ensures { AnswersAs (λ r. (r.0, entry_of r.1)) result (lines.format_line line.now) }
+{
+    if is(line, "yarrow-module 1") {
+        return Ok((Stage::Module, Item::Fixed));
+    }
+    Err(Refusal::Because(Why::Form))
+}
+
+/// The line with the module's name.
+#[tactic(auto, using(crate::proofs::Fronts::front_is, crate::proofs::Fronts::back_is))]
+fn module_line(asked: &Name, line: &[u8]) -> Result<(Stage, Item), Refusal>
+    ensures { AnswersAs (λ r. (r.0, entry_of r.1)) result (lines.module_line asked.now line.now) }
+{
+    let (front, name) = line.split_at(line.len().min(7));
+    if is_short(asked) && is(front, "module ") && is(name, asked.text()) {
+        return Ok((Stage::Uses, Item::Fixed));
+    }
+    Err(Refusal::Because(Why::Form))
+}
+
+/// A line that says what is used, or what may stand behind those.
+#[tactic(auto, using(crate::proofs::Fronts::front_is, crate::proofs::Fronts::back_is))]
+fn uses_line(alloc: Global, line: &[u8], text: &str) -> Result<(Stage, Item), Refusal>
+    requires { text.now ≡ line.now }
+    ensures { AnswersAs (λ r. (r.0, entry_of r.1)) result (lines.uses_line line.now) }
+{
+    let (front, name) = line.split_at(line.len().min(5));
+    if is(front, "uses ") {
+        if let Some(used) = short_name(alloc, name)? {
+            return Ok((Stage::Uses, Item::Uses(used)));
+        }
+    }
+    later_line(alloc, Stage::Uses, text)
+}
+
+/// A parameter or a declaration, or the end.
+fn later_line(alloc: Global, stage: Stage, text: &str) -> Result<(Stage, Item), Refusal>
+    ensures { AnswersAs (λ r. (r.0, entry_of r.1)) result (lines.later_line stage text.now) }
+{
+    match declaring_word(alloc, text)? {
+        Some(declaring) => {
+            if !may_declare(stage, declaring) {
+                return Err(Refusal::Because(Why::Form));
+            }
+            declared(alloc, text)
+        }
+        None => ending(stage, text),
+    }
+}
+
+/// The line `end`.
+fn ending(stage: Stage, text: &str) -> Result<(Stage, Item), Refusal>
+    ensures { AnswersAs (λ r. (r.0, entry_of r.1)) result (lines.ending stage text.now) }
+{
+    if may_declare(stage, Declaring::Assume) && is(text.as_bytes(), "end") {
+        return Ok((Stage::Ended, Item::Fixed));
+    }
+    Err(Refusal::Because(Why::Form))
+}
+
+/// A declaration that may stand there.
+fn declared(alloc: Global, text: &str) -> Result<(Stage, Item), Refusal>
+    ensures { AnswersAs (λ r. (r.0, entry_of r.1)) result (lines.declared (declaration_said text.now)) }
+{
+    match read_declaration(alloc, text) {
+        Ok(declaration) => with_short_name(declaration),
+        Err(fault) => Err(refusal_of(fault)),
+    }
+}
+
+/// A declaration, if its name is short.
+fn with_short_name(declaration: Declaration) -> Result<(Stage, Item), Refusal>
+    ensures { AnswersAs (λ r. (r.0, entry_of r.1)) result (lines.with_short_name (declaration_of declaration)) }
+{
+    let declaring = declaring_of(&declaration);
+    if !is_short(name_of(&declaration)) {
+        return Err(Refusal::Because(Why::Form));
+    }
+    Ok((behind(declaring), Item::Declared(declaration)))
+}
+
+/// What a declaration is.
+fn declaring_of(declaration: &Declaration) -> Declaring
+    ensures { result ≡ (declaration_of declaration.now).0 }
+{
+    match declaration {
+        Declaration::Parameter(_, _) => Declaring::Parameter,
+        Declaration::Assume(_, _) => Declaring::Assume,
+        Declaration::Define(_, _, _) => Declaring::Define,
+    }
+}
+
+/// Its name.
+fn name_of(declaration: &Declaration) -> &Name
+    ensures { Some result.now ≡ name_of (declaration_of declaration.now).1 }
+{
+    match declaration {
+        Declaration::Parameter(name, _) => name,
+        Declaration::Assume(name, _) => name,
+        Declaration::Define(name, _, _) => name,
+    }
+}
+
+/// The refusal of a line that is no declaration.
+fn refusal_of(fault: ReadFault) -> Refusal
+    ensures { IsRead fault result }
+{
+    match fault {
+        ReadFault::Memory => Refusal::Memory,
+        other => Refusal::Because(Why::Read(other)),
+    }
+}
+
+/// The plain name of at most 63 bytes that the bytes are.
+fn short_name(alloc: Global, bytes: &[u8]) -> Result<Option<Name>, AllocError>
+    ensures { IfOk result (λ o. o ≡ (if is_short_text bytes.now then Some bytes.now else None)) }
+{
+    let Some(text) = text_of(bytes) else {
+        return Ok(None);
+    };
+    match Name::read(alloc, text) {
+        Ok(name) => {
+            if is_short(&name) {
+                return Ok(Some(name));
+            }
+            Ok(None)
+        }
+        Err(fault) => match fault {
+            NameFault::Memory => Err(AllocError),
+            _ => Ok(None),
+        },
+    }
+}
+
+/// A plain name of at most 63 bytes.
+fn is_short(name: &Name) -> bool
+    ensures { result ≡ is_short name.now }
+{
+    is_plain(name) && name.text().len() <= 63
+}
+
+/// A name of one part other than `_`.
+fn is_plain(name: &Name) -> bool
+    ensures { result ≡ is_plain name.now }
+{
+    name.parts() == 1 && name.text() != "_"
+}
+
+/// An empty line, or one that begins with `%`.
+fn is_passed(line: &[u8]) -> bool
+    ensures { result ≡ is_passed line.now }
+{
+    match line.first() {
+        None => true,
+        Some(byte) => *byte == b'%',
+    }
+}
+
+/// Whether the bytes are those of the text.
+#[tactic(auto, using(crate::proofs::Pieces::same_bytes))]
+fn is(bytes: &[u8], text: &str) -> bool
+    ensures { result ≡ same_name bytes.now text.now }
+{
+    bytes == text.as_bytes()
+}
+
+/// The text that bytes are, where they are UTF-8.
+fn text_of(bytes: &[u8]) -> Option<&str>
+    ensures { MatchOption result (is_utf8 bytes.now ≡ false) (λ text. (is_utf8 bytes.now ≡ true) × (text.now ≡ bytes.now)) }
+{
+    match str::from_utf8(bytes) {
+        Ok(text) => Some(text),
+        Err(_) => None,
+    }
+}

@@ -1,5 +1,0 @@
-use Rattle.pts_written.proofs.laws.sorts_of_systems_stand_once.Goals as goal
-use Rattle.pts_written.proofs.Sorts.{each_sort_once}
-
-pub returns : goal.returns
-returns c = each_sort_once
