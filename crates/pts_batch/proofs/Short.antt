@@ -1,11 +1,10 @@
 -- What lines of the program say.
 use Rattle.std.proofs.Common.{◌≡◌, ◌≤◌, ℕ, List, [], ◌∷◌, map, length, refl, ap, arith, true}
-use Rattle.pts_names.specs.Name.{Name}
+use Rattle.pts_names.specs.Name.{Name, is_short}
 use Rattle.pts_lines.specs.declared.command.Declaring.{Declaring}
 use Rattle.pts_lines.specs.Lines.{Line}
 use Rattle.pts_lines.specs.Seen.{declaration_of}
 use Rattle.pts_module_file.specs.declared.file.ModuleLine.{ModuleLine}
-use Rattle.pts_module_file.specs.Lines.{is_short}
 use Rattle.pts_module_file.specs.File.{AllShort, stated_of}
 use Rattle.pts_batch.specs.Batches.{statements_of}
 use Rattle.pts_batch.specs.Evidence.{AllDeclarable, statement_of, numbered}

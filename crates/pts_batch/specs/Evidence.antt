@@ -6,7 +6,8 @@ use Rattle.pts_record.specs.declared.declaration.Declaration.{Declaration}
 use Rattle.pts_check.specs.Entered.{declared}
 use Rattle.pts_reduce_cost.specs.Costs.{Globals}
 use Rattle.pts_module_file.specs.declared.file.ModuleLine.{ModuleLine}
-use Rattle.pts_declare.specs.Statements.{Statement, assumes, defines, name_of, is_declarable}
+use Rattle.pts_declare.specs.Statements.{Statement, assumes, defines, name_of}
+use Rattle.pts_names.specs.Name.{is_short}
 use Rattle.pts_declare.specs.Answered.{MayEnter}
 
 -- The entries of declarations.
@@ -29,4 +30,4 @@ numbered r = (r.0, statement_of r.1)
 -- Each line declares a name that a file may declare.
 abbrev pub AllDeclarable : List (ℕ × ModuleLine) → Type 0
 AllDeclarable [] = Unit {0}
-AllDeclarable (r ∷ rs) = (is_declarable (name_of (statement_of r.1)) ≡ true) × AllDeclarable rs
+AllDeclarable (r ∷ rs) = (is_short (name_of (statement_of r.1)) ≡ true) × AllDeclarable rs

@@ -5,7 +5,7 @@ ghost use Rattle.std.specs.Fmt.{decimal};
 ghost use Rattle.pts_ctx.specs.Front.{bare_front};
 ghost use Rattle.pts_rules.specs.Derives.{Legal};
 ghost use Rattle.pts_module_file.specs.File.{AllShort, file_of, module_of};
-ghost use Rattle.pts_module_file.specs.Lines.{is_short};
+ghost use Rattle.pts_names.specs.Name.{is_short};
 ghost use Rattle.pts_declare.specs.Answered.{fault_text};
 ghost use Rattle.pts_batch.specs.Batches.{Answers, refusal, bad_line, at_line, unbuilt_line, why_text, with_entries};
 ghost use Rattle.pts_batch.specs.Calls.{AnswersBadFile, AnswersFault};

@@ -9,7 +9,8 @@ ghost use Rattle.pts_reduce.specs.Given.{Later};
 ghost use Rattle.pts_reduce_cost.specs.Laws.{WithinBudget};
 ghost use Rattle.pts_infer_cost.specs.Typing.{comes};
 ghost use Rattle.pts_check.specs.Entered.{declared};
-ghost use Rattle.pts_declare.specs.Statements.{name_of, is_declarable};
+ghost use Rattle.pts_declare.specs.Statements.{name_of};
+ghost use Rattle.pts_names.specs.Name.{is_short};
 ghost use Rattle.pts_declare.specs.Declaring.{Declares};
 ghost use Rattle.pts_declare.specs.Answered.{MayEnter, NotDeclared};
 ghost use Rattle.pts_batch.specs.Evidence.{entries_of, MayFollow, statement_of, numbered, AllDeclarable};
@@ -119,7 +120,7 @@ impl Loading {
         meter: &mut Meter,
     ) -> Result<(), DeclareFault>
         requires label { length label.now ≤ 63 }
-        requires name { is_declarable (name_of (statement_of line.now)) ≡ true }
+        requires name { is_short (name_of (statement_of line.now)) ≡ true }
         requires room { 0 < self.old.context.spare_entries }
         ensures entered { OnOk result ((d : Declaration) × WithinBudget (Declares system.now label.now self.old.context.entries (statement_of line.now)) (left meter.old) (comes (declared d)) (left meter.new) × MayEnter system.now self.old.context.entries d × (self.new.context.entries ≡ self.old.context.entries ++ declared d ∷ []) × (self.new.declarations.items ≡ self.old.declarations.items ++ d ∷ [])) }
         ensures refused { IfErr result (λ e. NotDeclared (Declares system.now label.now self.old.context.entries (statement_of line.now)) e (left meter.old) (left meter.new)) }
@@ -164,7 +165,7 @@ fn declare(
     meter: &mut Meter,
 ) -> Result<Declaration, DeclareFault>
     requires label { length label.now ≤ 63 }
-    requires name { is_declarable (name_of (statement_of line.now)) ≡ true }
+    requires name { is_short (name_of (statement_of line.now)) ≡ true }
     ensures declared { IfOk result (λ d. WithinBudget (Declares system.now label.now front.now.entries (statement_of line.now)) (left meter.old) (comes (declared d)) (left meter.new)) }
     ensures refused { IfErr result (λ e. NotDeclared (Declares system.now label.now front.now.entries (statement_of line.now)) e (left meter.old) (left meter.new)) }
     ensures evidence { IfOk result (λ d. MayEnter system.now front.now.entries d) }

@@ -4,23 +4,8 @@ use Rattle.std.specs.Prelude.{Result, Ok, Err}
 use Rattle.std.specs.List.{list_all}
 use Rattle.pts_certificate.specs.declared.fault.Refusal.{Refusal}
 use Rattle.pts_certificate.specs.declared.fault.Refusal.TheVariants.{BadLine, BadNumber}
-use Rattle.pts_certificate.specs.Text.{is_digits, is_number, is_padded, value, value_behind, numbers}
-
-pub value_grows : (n : ℕ) (digits : List ℕ) → n ≤ value_behind n digits
-value_grows n [] = omega arith
-value_grows n (c ∷ cs) = omega (arith, value_grows (n * 10 + (c - 48)) cs)
-
-not_small : (digits : List ℕ) (n : ℕ) → 2 ^ 32 ≤ n → (not (is_padded digits) && nat_lt n (2 ^ 32)) ≡ false
-not_small digits n great = grind arith
-
--- Where the digits so far write a number that is too great, so do all.
-pub too_great : (digits : List ℕ) (i n : ℕ) → i < length digits → value_behind n (drop i digits) ≡ value digits → 2 ^ 32 ≤ n * 10 + (get_or digits i 0 - 48) → is_number digits ≡ false
-too_great digits i n below same great =
-    let front : drop i digits ≡ get_or digits i 0 ∷ drop (suc i) digits = drop-cons digits i 0 below in
-    let whole : value_behind (n * 10 + (get_or digits i 0 - 48)) (drop (suc i) digits) ≡ value digits = sym (ap (value_behind n) front) ∙ same in
-    let grows : n * 10 + (get_or digits i 0 - 48) ≤ value_behind (n * 10 + (get_or digits i 0 - 48)) (drop (suc i) digits) = value_grows (n * 10 + (get_or digits i 0 - 48)) (drop (suc i) digits) in
-    let all : 2 ^ 32 ≤ value digits = omega (arith, whole, grows) in
-    not_small digits (value digits) all
+use Rattle.pts_bytes.specs.Digits.{is_digits, value}
+use Rattle.pts_certificate.specs.Text.{is_number, numbers}
 
 -- What is known of the tests and of the number that a word writes plays no part.
 module _ (digits fits : List ℕ → Bool) (worth : List ℕ → ℕ) where

@@ -5,8 +5,9 @@ ghost use Rattle.pts_certificate.specs.Seen.{spelled};
 
 use crate::fault::Refusal;
 use crate::sorts::Sorts;
-use crate::split::{Words, is};
+use crate::split::Words;
 use crate::word::spelling_of;
+use pts_bytes::is_text;
 use pts_names::SortName;
 use std::alloc::Global;
 
@@ -22,7 +23,7 @@ pub(crate) struct Lists {
 pub(crate) fn sorts_row(alloc: Global, word: &[u8], fields: Words) -> Result<Lists, Refusal>
     ensures { AnswersAs spelled result (format.sorts_row word.now fields.entry) }
 {
-    if !is(word, "sorts") {
+    if !is_text(word, "sorts") {
         return Err(Refusal::BadLine);
     }
     Ok(Lists {

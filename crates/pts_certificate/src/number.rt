@@ -1,10 +1,12 @@
 ghost use Rattle.std.specs.Prelude.{◌≡◌, ◌<◌, ◌≤◌, ◌++◌, ◌∷◌, [], length, Some, None, if◌then◌else◌};
 ghost use Rattle.pts_record.specs.Table.{number_in};
-ghost use Rattle.pts_certificate.specs.Text.{is_digit, is_digits, is_padded, is_number, value};
+ghost use Rattle.pts_bytes.specs.Digits.{is_digits, value};
+ghost use Rattle.pts_certificate.specs.Text.{is_number};
 ghost use Rattle.pts_certificate.specs.Text as fields;
 
 use crate::fault::Refusal;
 use crate::split::Words;
+use pts_bytes::{is_digits, number_up_to};
 use std::marker::Model;
 
 /// Up to six numbers. Contracts see their list.
@@ -45,7 +47,7 @@ impl Numbers {
         self.count
     }
 
-    /// Adds a number behind the others.
+    /// Adds a number after the others.
     fn push(&mut self, number: u32)
         requires { length self.old < 6 }
         ensures { self.new ≡ self.old ++ number ∷ [] }
@@ -99,32 +101,12 @@ pub(crate) fn numbers_of(words: Words, count: usize) -> Result<Numbers, Refusal>
     Ok(found)
 }
 
-/// Whether the word is decimal digits.
-fn is_digits(word: &[u8]) -> bool
-    ensures { result ≡ is_digits word.now }
-{
-    for byte in word {
-        if *byte < b'0' || *byte > b'9' {
-            return false;
-        }
-    }
-    !word.is_empty()
-}
-
 /// The number that the digits write, where it is one of a certificate.
-#[tactic(auto, using(crate::proofs::Numbers::value_grows))]
 fn number_of(digits: &[u8]) -> Option<u32>
     ensures { result ≡ (if is_number digits.now then Some (value digits.now) else None) }
 {
-    if digits.len() > 1 && digits[0] == b'0' {
-        return None;
+    match number_up_to(u64::from(u32::MAX), digits) {
+        Some(number) => Some(number as u32),
+        None => None,
     }
-    let mut value: u64 = 0;
-    for digit in digits {
-        value = value * 10 + u64::from(digit.saturating_sub(b'0'));
-        if value >= 1 << 32 {
-            return None;
-        }
-    }
-    Some(value as u32)
 }

@@ -1,9 +1,11 @@
 ghost use Rattle.std.specs.Prelude.{◌≡◌, ◌∷◌, [], ◌<◌, length, take, drop, Some, None, MatchOption, MatchResult};
 ghost use Rattle.pts_names.specs.Name.{same_name};
-ghost use Rattle.pts_certificate.specs.Text.{pieces, lines, words, without_return};
+ghost use Rattle.pts_bytes.specs.Pieces.{pieces};
+ghost use Rattle.pts_certificate.specs.Text.{lines, words, only_end};
 ghost use Rattle.pts_certificate.specs.Rows.{alone};
 
 use crate::fault::Refusal;
+use pts_bytes::{is_text, split_at, whole_line};
 use std::marker::Model;
 
 /// The words of a line that are not yet taken. Contracts see their list.
@@ -78,46 +80,14 @@ impl<'a> Words<'a> {
     }
 }
 
-/// What stands before and behind the first of these bytes.
-fn split_at(text: &[u8], byte: u8) -> Option<(&[u8], &[u8])>
-    ensures pieces { MatchOption result (pieces byte text.now ≡ text.now ∷ []) (λ parts. pieces byte text.now ≡ parts.0.now ∷ pieces byte parts.1.now) }
-    ensures less { MatchOption result (Unit {0}) (λ parts. length parts.1.now < length text.now) }
-{
-    for (place, found) in text.iter().enumerate() {
-        if *found == byte {
-            return Some((&text[..place], &text[place + 1..]));
-        }
-    }
-    None
-}
-
-/// The first line of a text, and the text behind it.
-#[tactic(auto, using(crate::proofs::Pieces::lines_more))]
+/// The first line of a text, and the rest.
 pub(crate) fn split_line(text: &[u8]) -> Option<(&[u8], &[u8])>
     ensures line { MatchOption result (lines text.now ≡ []) (λ parts. lines text.now ≡ parts.0.now ∷ lines parts.1.now) }
     ensures less { MatchOption result (Unit {0}) (λ parts. length parts.1.now < length text.now) }
 {
-    match split_at(text, b'\n') {
-        Some((line, rest)) => Some((trimmed(line), rest)),
-        None if is(text, "end") => Some((text, &text[text.len()..])),
+    match whole_line(text) {
+        Some(parts) => Some(parts),
+        None if is_text(text, "end") => Some((text, &text[text.len()..])),
         None => None,
     }
-}
-
-/// The line without the carriage return at its end, where it has one.
-fn trimmed(line: &[u8]) -> &[u8]
-    ensures { result.now ≡ without_return line.now }
-{
-    match line {
-        [front @ .., b'\r'] => front,
-        _ => line,
-    }
-}
-
-/// Whether the bytes are those of the text.
-#[tactic(auto, using(crate::proofs::Pieces::same_bytes))]
-pub(crate) fn is(bytes: &[u8], text: &str) -> bool
-    ensures { result ≡ same_name bytes.now text.now }
-{
-    bytes == text.as_bytes()
 }

@@ -7,9 +7,10 @@ use crate::declaration::{concluded, with_node, with_term};
 use crate::fault::Refusal;
 use crate::lists::{Lists, axiom_row, rule_row, sorts_row};
 use crate::node::node_row;
-use crate::split::{Words, is};
+use crate::split::Words;
 use crate::term::term_row;
 use crate::word::name_row;
+use pts_bytes::is_text;
 use pts_ctx::{Name, System, SystemFault};
 use pts_record::{Declaration, Record};
 use std::alloc::Global;
@@ -65,7 +66,7 @@ pub(crate) fn step(alloc: Global, state: State, line: &[u8]) -> Result<State, Re
 fn first_line(line: &[u8]) -> Result<State, Refusal>
     ensures { AnswersAs state_of result (format.first_line line.now) }
 {
-    if is(line, "yarrow-certificate 1") {
+    if is_text(line, "yarrow-certificate 1") {
         Ok(State::Sorts)
     } else {
         Err(Refusal::BadLine)
@@ -85,7 +86,7 @@ fn axioms_line(alloc: Global, lists: Lists, line: &[u8]) -> Result<State, Refusa
 {
     let mut fields = Words::of(line);
     let word = fields.field()?;
-    if is(word, "axiom") {
+    if is_text(word, "axiom") {
         return Ok(State::Axioms(axiom_row(alloc, lists, fields)?));
     }
     rules_row(alloc, lists, word, fields)
@@ -124,7 +125,7 @@ fn inside_line(
 fn rules_row(alloc: Global, lists: Lists, word: &[u8], fields: Words) -> Result<State, Refusal>
     ensures { AnswersAs state_of result (format.rules_row (spelled lists) word.now fields.entry) }
 {
-    if is(word, "rule") {
+    if is_text(word, "rule") {
         return Ok(State::Rules(rule_row(alloc, lists, fields)?));
     }
     behind_rules(alloc, lists, word, fields)
@@ -161,15 +162,15 @@ fn system_of(alloc: Global, lists: Lists) -> Result<System, Refusal>
 fn between_row(alloc: Global, front: Front, word: &[u8], fields: Words) -> Result<State, Refusal>
     ensures { AnswersAs state_of result (format.between_row (front_of front) word.now fields.entry) }
 {
-    if is(word, "assume") {
+    if is_text(word, "assume") {
         let name = name_row(alloc, fields)?;
         return Ok(opened(alloc, front, name, false));
     }
-    if is(word, "define") {
+    if is_text(word, "define") {
         let name = name_row(alloc, fields)?;
         return Ok(opened(alloc, front, name, true));
     }
-    if is(word, "end") {
+    if is_text(word, "end") {
         fields.end()?;
         return Ok(State::End(front));
     }
@@ -194,17 +195,17 @@ fn inside_row(
 ) -> Result<State, Refusal>
     ensures { AnswersAs state_of result (format.inside_row (front_of front) (heading_of heading) proof word.now fields.entry) }
 {
-    if is(word, "t") {
+    if is_text(word, "t") {
         let shape = term_row(alloc, &front.system, fields)?;
         let longer = with_term(proof, shape)?;
         return Ok(State::Inside(front, heading, longer));
     }
-    if is(word, "n") {
+    if is_text(word, "n") {
         let node = node_row(fields)?;
         let longer = with_node(proof, node)?;
         return Ok(State::Inside(front, heading, longer));
     }
-    if is(word, "qed") {
+    if is_text(word, "qed") {
         fields.end()?;
         let declaration = concluded(heading, proof)?;
         return Ok(State::Between(with_declaration(front, declaration)?));

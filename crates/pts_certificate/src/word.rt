@@ -6,6 +6,7 @@ ghost use Rattle.pts_certificate.specs.Rows as format;
 
 use crate::fault::Refusal;
 use crate::split::Words;
+use pts_bytes::text_of;
 use pts_ctx::Name;
 use pts_names::{NameFault, SortName, SortNameFault};
 use std::alloc::Global;
@@ -56,14 +57,4 @@ pub(crate) fn name_row(alloc: Global, mut fields: Words) -> Result<Name, Refusal
     let word = fields.field()?;
     fields.end()?;
     name_of(alloc, word)
-}
-
-/// The text that a word is, where it is UTF-8.
-fn text_of(word: &[u8]) -> Option<&str>
-    ensures { MatchOption result (is_utf8 word.now ≡ false) (λ text. (is_utf8 word.now ≡ true) × (text.now ≡ word.now)) }
-{
-    match str::from_utf8(word) {
-        Ok(text) => Some(text),
-        Err(_) => None,
-    }
 }

@@ -1,21 +1,17 @@
 -- What a module file declares, with its names and sorts looked up.
 use Rattle.std.specs.Prelude.{ℕ, List, [], nat_le, length, Bool, ◌&&◌, if◌then◌else◌, Option, Some, None, is_some, Result, Ok}
-use Rattle.pts_names.specs.Name.{Name, joined}
+use Rattle.pts_names.specs.Name.{Name, joined, is_short}
 use Rattle.pts_terms.specs.Tree.{Named}
 use Rattle.pts_ctx.specs.Front.{Global}
 use Rattle.pts_ctx.specs.Seen.{place_of}
 use Rattle.pts_grammar.specs.Syntax.{Syntax}
 use Rattle.pts_parser.specs.declared.fault.ReadFault.{ReadFault}
-use Rattle.pts_parser.specs.Resolution.{is_plain, resolved, and_then}
-
--- A plain name that fits behind a label.
-abbrev pub is_declarable : Name → Bool
-is_declarable x = is_plain x && nat_le (length x) 63
+use Rattle.pts_parser.specs.Resolution.{resolved, and_then}
 
 -- The constant for which a name stands in the module M: the declaration of the module that has this name, if it stands
 -- in the front.
 abbrev pub visible : (M : Name) → List (Global Name) → Name → Option Name
-visible M G x = if is_declarable x && is_some (place_of (joined M x) G) then Some (joined M x) else None
+visible M G x = if is_short x && is_some (place_of (joined M x) G) then Some (joined M x) else None
 
 -- An assumption with its type; a definition with its type, if one is written, and its body.
 pub data Statement : Type 0 where

@@ -13,6 +13,6 @@ mod words;
 
 pub use fault::{DeclareFault, Part};
 pub use laws::statements_have_one_outcome;
-pub use scope::{FileScope, is_declarable};
+pub use scope::FileScope;
 pub use statements::{assume, define};
 pub use words::{fault_text, read_text};

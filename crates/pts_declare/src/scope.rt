@@ -1,8 +1,8 @@
 // The names that the statements of a module may use.
 
 ghost use Rattle.std.specs.Prelude.{◌≡◌, ◌≤◌, length, IfOk, true};
-ghost use Rattle.pts_parser.specs.Resolution.{is_plain};
-ghost use Rattle.pts_declare.specs.Statements.{is_declarable, visible};
+ghost use Rattle.pts_names.specs.Name.{is_plain, is_short};
+ghost use Rattle.pts_declare.specs.Statements.{visible};
 
 use pts_ctx::Context;
 use pts_names::{Name, NameFault};
@@ -49,7 +49,7 @@ impl<'a> Scope for FileScope<'a> {
     ghost constants = { λ s. visible s.label s.entries };
 
     fn constant(&self, alloc: Global, name: &Name) -> Result<Option<Name>, AllocError> {
-        if !is_declarable(name) {
+        if !name.is_short() {
             return Ok(None);
         }
         let whole = match Name::join(alloc, self.label, name) {
@@ -64,16 +64,3 @@ impl<'a> Scope for FileScope<'a> {
     }
 }
 
-/// Whether a module file may declare the name: it is plain and has at most 63 bytes.
-pub fn is_declarable(name: &Name) -> bool
-    ensures { result ≡ is_declarable name.now }
-{
-    is_plain(name) && name.text().len() <= 63
-}
-
-// A name of one part other than `_`.
-fn is_plain(name: &Name) -> bool
-    ensures { result ≡ is_plain name.now }
-{
-    name.parts() == 1 && name.text() != "_"
-}

@@ -1,7 +1,7 @@
 // Statements of a module.
 
 ghost use Rattle.std.specs.Prelude.{◌≡◌, ◌≤◌, length, true, IfOk, IfErr, Ok, None, option_map};
-ghost use Rattle.pts_names.specs.Name.{joined};
+ghost use Rattle.pts_names.specs.Name.{joined, is_short};
 ghost use Rattle.pts_ctx.specs.Front.{Fresh};
 ghost use Rattle.pts_ctx.specs.Seen.{place_of};
 ghost use Rattle.pts_grammar.specs.Seen.{syntax_of};
@@ -11,7 +11,7 @@ ghost use Rattle.pts_reduce_cost.specs.Laws.{WithinBudget};
 ghost use Rattle.pts_infer_cost.specs.Typing.{comes};
 ghost use Rattle.pts_check.specs.Entered.{declared};
 ghost use Rattle.pts_reduce.specs.Given.{Later};
-ghost use Rattle.pts_declare.specs.Statements.{Statement, assumes, defines, name_of, is_declarable, stated, visible};
+ghost use Rattle.pts_declare.specs.Statements.{Statement, assumes, defines, name_of, stated, visible};
 ghost use Rattle.pts_declare.specs.Declaring.{Declares};
 ghost use Rattle.pts_declare.specs.Answered.{MayEnter, NotDeclared, NotFree, stated_of, told_unread, AnswersStated};
 
@@ -45,7 +45,7 @@ pub fn assume(
     meter: &mut Meter,
 ) -> Result<Declaration, DeclareFault>
     requires label { length label.now ≤ 63 }
-    requires name { is_declarable name.now ≡ true }
+    requires name { is_short name.now ≡ true }
     ensures declared { IfOk result (λ d. WithinBudget (Declares system.now label.now front.now.entries (assumes name.now (syntax_of ty.now))) (left meter.old) (comes (declared d)) (left meter.new)) }
     ensures refused { IfErr result (λ e. NotDeclared (Declares system.now label.now front.now.entries (assumes name.now (syntax_of ty.now))) e (left meter.old) (left meter.new)) }
     ensures evidence { IfOk result (λ d. MayEnter system.now front.now.entries d) }
@@ -76,7 +76,7 @@ pub fn define(
     meter: &mut Meter,
 ) -> Result<Declaration, DeclareFault>
     requires label { length label.now ≤ 63 }
-    requires name { is_declarable name.now ≡ true }
+    requires name { is_short name.now ≡ true }
     ensures declared { IfOk result (λ d. WithinBudget (Declares system.now label.now front.now.entries (defines name.now (option_map (λ t. syntax_of t.now) ty.entry) (syntax_of body.now))) (left meter.old) (comes (declared d)) (left meter.new)) }
     ensures refused { IfErr result (λ e. NotDeclared (Declares system.now label.now front.now.entries (defines name.now (option_map (λ t. syntax_of t.now) ty.entry) (syntax_of body.now))) e (left meter.old) (left meter.new)) }
     ensures evidence { IfOk result (λ d. MayEnter system.now front.now.entries d) }
@@ -143,7 +143,7 @@ fn declare(
     meter: &mut Meter,
 ) -> Result<Declaration, DeclareFault>
     requires label { length label.now ≤ 63 }
-    requires name { is_declarable name.now ≡ true }
+    requires name { is_short name.now ≡ true }
     ensures declared { IfOk result (λ r. (d : Statement) → name_of d ≡ name.now → stated system.now.sorts (visible label.now front.now.entries) d ≡ Ok (stated_of given) → WithinBudget (Declares system.now label.now front.now.entries d) (left meter.old) (comes (declared r)) (left meter.new)) }
     ensures refused { IfErr result (λ e. (d : Statement) → name_of d ≡ name.now → stated system.now.sorts (visible label.now front.now.entries) d ≡ Ok (stated_of given) → NotDeclared (Declares system.now label.now front.now.entries d) e (left meter.old) (left meter.new)) }
     ensures evidence { IfOk result (λ d. MayEnter system.now front.now.entries d) }
@@ -163,7 +163,7 @@ fn free_name(
     name: &Name,
 ) -> Result<Name, DeclareFault>
     requires label { length label.now ≤ 63 }
-    requires name { is_declarable name.now ≡ true }
+    requires name { is_short name.now ≡ true }
     ensures name { IfOk result (λ x. x ≡ joined label.now name.now) }
     ensures free { IfOk result (λ x. place_of x front.now.entries ≡ None) }
     ensures fresh { IfOk result (λ x. Fresh x front.now.entries) }

@@ -2,12 +2,12 @@
 use Rattle.std.proofs.Common.{◌≡◌, refl, subst, arith, ℕ, suc, ◌<◌, List, [], ◌∷◌, length, Bool, true, false, Option, Some, None, option_map, Ok, Err}
 use Rattle.std.specs.Prelude.{Result, if◌then◌else◌}
 use Rattle.std.proofs.lemmas.List.Quantifiers.{position-Some}
-use Rattle.pts_names.specs.Name.{Name, same_name}
+use Rattle.pts_names.specs.Name.{Name, same_name, is_plain}
 use Rattle.pts_terms.specs.Tree.{Named, sort, var, app, named_lam, named_pi, named_let, Below}
 use Rattle.pts_ctx.specs.System.{sort_of}
 use Rattle.pts_grammar.specs.Syntax.{Syntax, sort as a_sort, name as a_name, app as applied, lam, pi, let_in}
 use Rattle.pts_parser.specs.declared.fault.ReadFault.{ReadFault}
-use Rattle.pts_parser.specs.Resolution.{place_of, binder_of, is_plain, and_then, name_at, sort_at, resolved}
+use Rattle.pts_parser.specs.Resolution.{place_of, binder_of, and_then, name_at, sort_at, resolved}
 use Rattle.pts_parser.specs.Reading.{Means}
 use Rattle.pts_printed.specs.Laws.{SortsBelow, Stands, PrintedTermsAreReadBack}
 use Rattle.pts_printed.specs.Locals.{chosen_locals}

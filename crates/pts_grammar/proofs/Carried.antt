@@ -1,13 +1,12 @@
 -- What is built in place of syntax follows the syntax.
 use Rattle.std.proofs.Common.{ℕ, ◌≡◌, refl, sym, ◌∙◌, ap, List, [], ◌∷◌, Bool, true, false, cond, Option, Some, None, option_map, suc}
-use Rattle.pts_names.specs.Name.{Name, is_identifier}
+use Rattle.pts_names.specs.Name.{Name, is_identifier, underscore}
 use Rattle.pts_tokens.specs.declared.token.Token.{Token}
 use Rattle.pts_tokens.specs.declared.token.Token.TheVariants.{In, Colon, Assign, Dot, Arrow, Open, Close, Sort, Name as Word}
 use Rattle.pts_tokens.specs.Tokens.{Spot}
 use Rattle.pts_grammar.specs.declared.kind.Kind.TheVariants.{Name as name_wanted}
 use Rattle.pts_grammar.specs.declared.frame.Binder.{Binder}
 use Rattle.pts_grammar.specs.declared.frame.Binder.TheVariants.{Pi}
-use Rattle.pts_grammar.specs.Grammar.{underscore}
 use Rattle.pts_grammar.specs.Machine.{Build, Frame, in_parens, at_type, at_body, let_value, let_type, let_body, behind_arrow, State, begin, binder, binder_sign, let_name, let_sign, after, Move, go, stay, fail, deep, Outcome, read, expected, too_deep, opened, applied_to, closing, opening, if_plain, step, whole, at_end, run}
 
 module _ {D E : Type 0} (B : Build D) (C : Build E) (h : D → E)

@@ -1,6 +1,6 @@
 -- What the grammar reads, the machine reads.
 use Rattle.std.proofs.Common.{ℕ, ◌≡◌, refl, ◌∙◌, ap, List, [], ◌∷◌, Bool, true, false, cond, Option, Some, None, ◌⊎◌, inl, inr}
-use Rattle.pts_names.specs.Name.{Name, is_identifier}
+use Rattle.pts_names.specs.Name.{Name, is_identifier, underscore}
 use Rattle.pts_tokens.specs.declared.token.Token.{Token}
 use Rattle.pts_tokens.specs.declared.token.Token.TheVariants.{Colon, Assign, Arrow, Open, Sort, Name as Word}
 use Rattle.pts_tokens.specs.Tokens.{Spot}
@@ -8,7 +8,7 @@ use Rattle.pts_grammar.specs.declared.kind.Kind.TheVariants.{Name as name_wanted
 use Rattle.pts_grammar.specs.declared.frame.Binder.{Binder}
 use Rattle.pts_grammar.specs.declared.frame.Binder.TheVariants.{Lam, Pi}
 use Rattle.pts_grammar.specs.Syntax.{Syntax, pi, let_in}
-use Rattle.pts_grammar.specs.Grammar.{underscore, Reads, abstraction, product, definition, application, arrow, App, atoms, Args, no_more, one_more, Atom, a_sort, a_name, parentheses}
+use Rattle.pts_grammar.specs.Grammar.{Reads, abstraction, product, definition, application, arrow, App, atoms, Args, no_more, one_more, Atom, a_sort, a_name, parentheses}
 use Rattle.pts_grammar.specs.Machine.{syntax, bound_syntax, Frame, in_parens, at_type, at_body, let_value, let_type, let_body, behind_arrow, State, begin, binder, binder_sign, let_name, let_sign, after, Move, go, stay, fail, deep, Outcome, read, expected, too_deep, opened, applied_to, closing, opening, if_plain, step, whole, run}
 
 -- The open constructs, with syntax.

@@ -1,12 +1,11 @@
 -- Where the machine comes, and that it can always come to an end.
 use Rattle.std.proofs.Common.{ℕ, ◌≡◌, refl, sym, ◌∙◌, ap, subst, List, [], ◌∷◌, ◌++◌, Bool, Option, Some, None, ◌⊎◌, inl, inr}
 use Rattle.std.specs.Prelude.{codes}
-use Rattle.pts_names.specs.Name.{Name}
+use Rattle.pts_names.specs.Name.{Name, underscore}
 use Rattle.pts_tokens.specs.declared.token.Token.TheVariants.{In, Colon, Assign, Dot, Open, Close, Sort, Name as Word}
 use Rattle.pts_tokens.specs.Tokens.{Spot}
 use Rattle.pts_grammar.specs.declared.frame.Binder.{Binder}
 use Rattle.pts_grammar.specs.Syntax.{Syntax, sort, pi, let_in}
-use Rattle.pts_grammar.specs.Grammar.{underscore}
 use Rattle.pts_grammar.specs.Machine.{syntax, bound_syntax, in_parens, at_type, at_body, let_value, let_type, let_body, behind_arrow, State, begin, binder, binder_sign, let_name, let_sign, after, Move, go, stay, fail, deep, read, applied_to, step, run}
 use Rattle.pts_grammar.proofs.Complete.{Frames, follow, Ends, continues, run_ends, ended_body, ended_let, ended_arrow, binds, defines, opening_is, Agrees, exactly, cut_off}
 use Rattle.pts_grammar.proofs.Sound.{always}

@@ -1,6 +1,6 @@
 -- What the machine reads, the grammar reads; so a text has one syntax.
 use Rattle.std.proofs.Common.{ℕ, ◌≡◌, refl, sym, ◌∙◌, ap, subst₂, List, [], ◌∷◌, Bool, true, false, cond, Option, Some, None, inl, inr}
-use Rattle.pts_names.specs.Name.{Name, is_identifier}
+use Rattle.pts_names.specs.Name.{Name, is_identifier, underscore}
 use Rattle.pts_tokens.specs.declared.token.Token.{Token}
 use Rattle.pts_tokens.specs.declared.token.Token.TheVariants.{Lambda, At, Let, In, Colon, Assign, Dot, Arrow, Open, Close, Sort, Name as Word}
 use Rattle.pts_tokens.specs.Tokens.{Spot}
@@ -8,7 +8,7 @@ use Rattle.pts_grammar.specs.declared.kind.Kind.TheVariants.{Name as name_wanted
 use Rattle.pts_grammar.specs.declared.frame.Binder.{Binder}
 use Rattle.pts_grammar.specs.declared.frame.Binder.TheVariants.{Lam, Pi}
 use Rattle.pts_grammar.specs.Syntax.{Syntax, sort, name, app, pi, let_in}
-use Rattle.pts_grammar.specs.Grammar.{underscore, Reads, abstraction, product, definition, application, arrow, App, atoms, Args, no_more, one_more, Atom, a_sort, a_name, parentheses}
+use Rattle.pts_grammar.specs.Grammar.{Reads, abstraction, product, definition, application, arrow, App, atoms, Args, no_more, one_more, Atom, a_sort, a_name, parentheses}
 use Rattle.pts_grammar.specs.Machine.{syntax, bound_syntax, in_parens, at_type, at_body, let_value, let_type, let_body, behind_arrow, State, begin, binder, binder_sign, let_name, let_sign, after, Move, go, stay, fail, deep, Outcome, read, expected, too_deep, applied_to, closing, opening, if_plain, step, whole, at_end, run}
 use Rattle.pts_grammar.proofs.Complete.{Frames, follow, ended, Ends, Agrees, exactly, cut_off, plain_goes, plain_fails, opening_is, reads_run}
 

@@ -1,11 +1,10 @@
 -- `_` is a name.
 use Rattle.std.proofs.Common.{◌≡◌, ◌≢◌, refl, sym, ◌∙◌, Bool, true, false, cond, not, ◌||◌, is_none, Some, None, arith}
 use Rattle.std.specs.Str as str
-use Rattle.pts_names.specs.Name.{is_identifier, name_fault, UnlessMemory}
+use Rattle.pts_names.specs.Name.{is_identifier, name_fault, UnlessMemory, underscore}
 use Rattle.pts_names.specs.declared.fault.NameFault.{NameFault}
 use Rattle.pts_names.specs.declared.fault.NameFault.TheVariants.{Empty, BadStart, BadPart, TooLong, Memory}
 use Rattle.pts_names.proofs.OnePart.{identifier_is_name}
-use Rattle.pts_grammar.specs.Grammar.{underscore}
 
 pub underscore_is_identifier : is_identifier underscore ≡ true
 unfolding is_identifier str.chars

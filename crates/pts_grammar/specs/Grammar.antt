@@ -15,10 +15,6 @@ use Rattle.pts_tokens.specs.declared.token.Token.TheVariants.{Lambda, At, Let, I
 use Rattle.pts_tokens.specs.Tokens.{Spot}
 use Rattle.pts_grammar.specs.Syntax.{Syntax, sort, name, app, lam, pi, let_in}
 
--- The printed name of a product that is written with an arrow.
-abbrev pub underscore : Name
-underscore = codes "_"
-
 mutual
   pub data Reads : List Spot → Syntax → List Spot → Type 0 where
     abstraction : {ts us vs : List Spot} {A b : Syntax} {p q r o : ℕ} {x : Name} → is_identifier x ≡ true → Reads ts A ((o, Dot) ∷ us) → Reads us b vs → Reads ((p, Lambda) ∷ (q, Word x) ∷ (r, Colon) ∷ ts) (lam x A b) vs

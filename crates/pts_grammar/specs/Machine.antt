@@ -1,7 +1,7 @@
 -- Reading tokens from left to right, with the constructs that are open. What is built of them is left open: syntax, or
 -- something that takes less room.
 use Rattle.std.specs.Prelude.{ℕ, suc, List, [], ◌∷◌, Bool, true, false, if◌then◌else◌, Option, Some, None}
-use Rattle.pts_names.specs.Name.{Name, is_identifier}
+use Rattle.pts_names.specs.Name.{Name, is_identifier, underscore}
 use Rattle.pts_tokens.specs.declared.token.Token.{Token}
 use Rattle.pts_tokens.specs.declared.token.Token.TheVariants.{Lambda, At, Let, In, Colon, Assign, Dot, Arrow, Open, Close, Sort, Name as Word}
 use Rattle.pts_tokens.specs.Tokens.{Spot}
@@ -10,7 +10,6 @@ use Rattle.pts_grammar.specs.declared.kind.Kind.TheVariants.{Term as term_wanted
 use Rattle.pts_grammar.specs.declared.frame.Binder.{Binder}
 use Rattle.pts_grammar.specs.declared.frame.Binder.TheVariants.{Lam, Pi}
 use Rattle.pts_grammar.specs.Syntax.{Syntax, sort, name, app, lam, pi, let_in}
-use Rattle.pts_grammar.specs.Grammar.{underscore}
 
 -- How things are built.
 pub record Build (D : Type 0) : Type 0 where

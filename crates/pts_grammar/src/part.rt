@@ -1,7 +1,7 @@
 ghost use Rattle.std.specs.Prelude.{◌≡◌, Some, None, IfOk, MatchOption};
 ghost use Rattle.pts_grammar.specs.Seen.{part_of, parts, with_three};
 ghost use Rattle.pts_grammar.specs.Syntax.{Syntax};
-ghost use Rattle.pts_grammar.specs.Grammar.{underscore};
+ghost use Rattle.pts_names.specs.Name.{underscore};
 ghost use Rattle.pts_grammar.specs.declared.frame.Binder.TheVariants.{Pi};
 
 use crate::frame::Binder;

@@ -5,7 +5,8 @@ use Rattle.pts_tokens.specs.declared.token.Token.{Token}
 use Rattle.pts_tokens.specs.declared.token.Token.TheVariants.{Colon, Assign, Semicolon, Sort, Name as Word, Number}
 use Rattle.pts_tokens.specs.Tokens.{Spot}
 use Rattle.pts_grammar.specs.Syntax.{Syntax, sort}
-use Rattle.pts_grammar.specs.Grammar.{Reads, application, atoms, no_more, a_sort, underscore}
+use Rattle.pts_grammar.specs.Grammar.{Reads, application, atoms, no_more, a_sort}
+use Rattle.pts_names.specs.Name.{underscore}
 use Rattle.pts_grammar.specs.Seen.{within}
 use Rattle.pts_lines.specs.Items.{Item, plain, label, placed, number, colon, assign, semicolon, sign, Value, wanted, said}
 use Rattle.pts_lines.specs.Lines.{Terms}

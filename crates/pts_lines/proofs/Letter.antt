@@ -4,11 +4,9 @@ use Rattle.std.specs.Prelude.{codes}
 use Rattle.std.specs.Str as str
 use Rattle.unicode_ident.specs.Ident.{is_xid_start}
 use Rattle.unicode_ident.proofs.IdentLemmas.{is_xid_start-ascii}
-use Rattle.pts_names.specs.Name.{Name, is_identifier}
+use Rattle.pts_names.specs.Name.{Name, is_identifier, underscore, is_plain}
 use Rattle.pts_names.specs.declared.fault.NameFault.TheVariants.{BadStart}
-use Rattle.pts_grammar.specs.Grammar.{underscore}
 use Rattle.pts_grammar.proofs.Underscore.{underscore_is_identifier}
-use Rattle.pts_parser.specs.Resolution.{is_plain}
 use Rattle.pts_lines.specs.Items.{is_label}
 
 abbrev pub letter : Name

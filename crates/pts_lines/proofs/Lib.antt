@@ -1,7 +1,6 @@
 pub mod Differs
 pub mod Kept
 pub mod Mapped
-pub mod Digits
 pub mod Frames
 pub mod Several
 pub mod Machine
@@ -20,4 +19,3 @@ pub mod Rows
 pub mod Lines
 pub mod Unambiguous
 pub mod Determined
-pub mod Utf8

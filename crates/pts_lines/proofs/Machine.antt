@@ -8,7 +8,8 @@ use Rattle.pts_tokens.specs.Tokens.{Spot}
 use Rattle.pts_grammar.specs.declared.kind.Kind.{Kind}
 use Rattle.pts_grammar.specs.declared.kind.Kind.TheVariants as kind
 use Rattle.pts_grammar.specs.Syntax.{Syntax}
-use Rattle.pts_grammar.specs.Grammar.{Reads, underscore}
+use Rattle.pts_grammar.specs.Grammar.{Reads}
+use Rattle.pts_names.specs.Name.{underscore}
 use Rattle.pts_grammar.specs.Machine.{syntax, in_parens, at_type, at_body, let_value, let_type, let_body, behind_arrow, State, begin, binder, binder_sign, let_name, let_sign, after, Move, go, stay, fail, deep, read, expected, too_deep, closing, step, whole, at_end as end_of, run}
 use Rattle.pts_grammar.specs.Refusals.{Viable}
 use Rattle.pts_grammar.specs.Refusals as grammar

@@ -8,7 +8,7 @@ use Rattle.pts_tokens.specs.Tokens.{Spot}
 use Rattle.pts_grammar.specs.declared.kind.Kind.{Kind}
 use Rattle.pts_grammar.specs.declared.kind.Kind.TheVariants as kind
 use Rattle.pts_grammar.specs.Syntax.{Syntax}
-use Rattle.pts_grammar.specs.Grammar.{underscore}
+use Rattle.pts_names.specs.Name.{underscore}
 use Rattle.pts_grammar.specs.Machine.{syntax, State, begin, read, at_end as end_of, run}
 use Rattle.pts_grammar.specs.Seen.{Part, within}
 use Rattle.pts_grammar.proofs.Complete.{Ends, continues}

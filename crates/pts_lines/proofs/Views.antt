@@ -1,9 +1,8 @@
 -- The tokens that a form of line takes.
 use Rattle.std.proofs.Common.{ℕ, ◌≡◌, refl, ap, subst, List, Bool, true, false, cond, Some, None}
-use Rattle.pts_names.specs.Name.{Name}
+use Rattle.pts_names.specs.Name.{Name, is_plain}
 use Rattle.pts_tokens.specs.declared.token.Token.TheVariants.{Colon, Assign, Name as Word, Number}
 use Rattle.pts_tokens.specs.Tokens.{Spot}
-use Rattle.pts_parser.specs.Resolution.{is_plain}
 use Rattle.pts_lines.specs.Items.{plain, label, placed, number, colon, sign, said, is_label, units}
 
 pub data PlainAt : Spot → Name → Type 0 where

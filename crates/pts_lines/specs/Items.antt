@@ -1,12 +1,12 @@
 -- What one token of a line can be: a name of one part other than `_`, one that may be a label, any name, a number of a
 -- budget, a sign, or one of the two signs that may stand behind the name of a definition.
 use Rattle.std.specs.Prelude.{ℕ, ◌+◌, ◌*◌, ◌-◌, ◌&&◌, ◌==◌, not, nat_le, length, List, [], ◌∷◌, Bool, true, false, if◌then◌else◌, Option, Some, None, Result, Ok, Err}
-use Rattle.pts_names.specs.Name.{Name}
+use Rattle.pts_names.specs.Name.{Name, is_plain}
+use Rattle.pts_bytes.specs.Digits.{number_up_to}
 use Rattle.pts_tokens.specs.declared.token.Token.TheVariants.{Colon, Assign, Semicolon, Name as Word, Number}
 use Rattle.pts_tokens.specs.Tokens.{Spot}
 use Rattle.pts_grammar.specs.declared.kind.Kind.{Kind}
 use Rattle.pts_grammar.specs.declared.kind.Kind.TheVariants as kind
-use Rattle.pts_parser.specs.Resolution.{is_plain}
 use Rattle.pts_parser.specs.declared.fault.ReadFault.{ReadFault}
 use Rattle.pts_parser.specs.declared.fault.ReadFault.TheVariants.{Expected}
 
@@ -14,20 +14,9 @@ use Rattle.pts_parser.specs.declared.fault.ReadFault.TheVariants.{Expected}
 abbrev pub is_label : Name → Bool
 is_label x = is_plain x && nat_le (length x) 64
 
--- The number that decimal digits write behind those of n.
-abbrev pub value_behind : ℕ → List ℕ → ℕ
-value_behind n [] = n
-value_behind n (c ∷ cs) = value_behind (n * 10 + (c - 48)) cs
-
--- Whether digits begin with a zero before a further digit.
-abbrev pub is_padded : List ℕ → Bool
-is_padded [] = false
-is_padded (c ∷ []) = false
-is_padded (c ∷ d ∷ cs) = c == 48
-
 -- The number of units that digits write: no leading zero, and at most 10,000,000.
 abbrev pub units : List ℕ → Option ℕ
-units ds = if not (is_padded ds) && nat_le (value_behind 0 ds) 10000000 then Some (value_behind 0 ds) else None
+units digits = number_up_to 10000000 digits
 
 pub data Item : Type 0 where
   plain : Item

@@ -1,11 +1,10 @@
 -- The grammar of lines, with one rule for each form of line. `LineReads ts line` says that the tokens ts are that line.
 use Rattle.std.specs.Prelude.{◌≡◌, ℕ, List, [], ◌∷◌, Option, Some, None, true}
-use Rattle.pts_names.specs.Name.{Name}
+use Rattle.pts_names.specs.Name.{Name, is_plain}
 use Rattle.pts_tokens.specs.declared.token.Token.TheVariants.{Colon, Assign, Semicolon, Name as Word, Number}
 use Rattle.pts_tokens.specs.Tokens.{Spot}
 use Rattle.pts_grammar.specs.Syntax.{Syntax}
 use Rattle.pts_grammar.specs.Grammar.{Reads}
-use Rattle.pts_parser.specs.Resolution.{is_plain}
 use Rattle.pts_lines.specs.declared.command.Alone.{Alone}
 use Rattle.pts_lines.specs.declared.command.Named.{Named}
 use Rattle.pts_lines.specs.declared.command.Placed.{Placed}

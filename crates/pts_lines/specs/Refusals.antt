@@ -1,12 +1,11 @@
 -- The refusals of a grammar of lines, in terms of the grammar alone. `Is ts` says that the tokens ts are one of its texts.
 use Rattle.std.specs.Prelude.{◌≡◌, ◌≤◌, ℕ, List, [], ◌∷◌, ◌++◌}
-use Rattle.pts_names.specs.Name.{Name as Text}
+use Rattle.pts_names.specs.Name.{Name as Text, underscore}
 use Rattle.pts_tokens.specs.declared.token.Token.{Token}
 use Rattle.pts_tokens.specs.declared.token.Token.TheVariants as token
 use Rattle.pts_tokens.specs.Tokens.{Spot}
 use Rattle.pts_grammar.specs.declared.kind.Kind.{Kind}
 use Rattle.pts_grammar.specs.declared.kind.Kind.TheVariants as kind
-use Rattle.pts_grammar.specs.Grammar.{underscore}
 use Rattle.pts_grammar.specs.Refusals.{open_behind}
 
 -- The tokens can go on to a text.

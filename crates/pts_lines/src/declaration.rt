@@ -11,6 +11,7 @@ ghost use Rattle.pts_lines.specs.Forms.{AnswersAs, run_declaration};
 use crate::command::Declaring;
 use crate::shape::{definition, typed};
 use crate::word::declared;
+use pts_bytes::text_of;
 use pts_names::Name;
 use pts_parser::ReadFault;
 use pts_grammar::{Kind, Tree};
@@ -103,16 +104,6 @@ fn word_in(alloc: Global, front: &[u8]) -> Result<Option<Declaring>, AllocError>
     match text_of(front) {
         Some(text) => first_in(alloc, text),
         None => Ok(None),
-    }
-}
-
-/// The text that bytes are, where they are UTF-8.
-fn text_of(bytes: &[u8]) -> Option<&str>
-    ensures { MatchOption result (is_utf8 bytes.now ≡ false) (λ text. (is_utf8 bytes.now ≡ true) × (text.now ≡ bytes.now)) }
-{
-    match str::from_utf8(bytes) {
-        Ok(text) => Some(text),
-        Err(_) => None,
     }
 }
 

@@ -1,8 +1,9 @@
 ghost use Rattle.std.specs.Prelude.{◌≡◌, ◌≤◌, IfOk, length, if◌then◌else◌, Some, None};
-ghost use Rattle.pts_parser.specs.Resolution.{is_plain};
-ghost use Rattle.pts_lines.specs.Items.{plain as a_plain, label as a_label, placed as a_name, number as a_number, colon as a_colon, assign as an_assign, semicolon as a_semicolon, sign as a_sign, is_label, is_padded, units, value_behind, first_item};
+ghost use Rattle.pts_names.specs.Name.{is_plain};
+ghost use Rattle.pts_lines.specs.Items.{plain as a_plain, label as a_label, placed as a_name, number as a_number, colon as a_colon, assign as an_assign, semicolon as a_semicolon, sign as a_sign, is_label, units, first_item};
 ghost use Rattle.pts_lines.specs.Forms.{AnswersAs, ended};
 
+use pts_bytes::number_up_to;
 use pts_names::Name;
 use pts_parser::ReadFault;
 use pts_grammar::Kind;
@@ -20,7 +21,7 @@ pub(crate) fn plain(
         return Err(ReadFault::Expected(length, Kind::Plain));
     };
     match &spot.1 {
-        Token::Name(name) if is_plain(name) => Ok((name.copy()?, behind)),
+        Token::Name(name) if name.is_plain() => Ok((name.copy()?, behind)),
         _ => Err(ReadFault::Expected(spot.0, Kind::Plain)),
     }
 }
@@ -68,7 +69,7 @@ pub(crate) fn number(
         return Err(ReadFault::Expected(length, Kind::Number));
     };
     if let Token::Number(digits) = &spot.1 {
-        if let Some(number) = units(digits.text().as_bytes()) {
+        if let Some(number) = number_up_to(10_000_000, digits.text().as_bytes()) {
             return Ok((number, behind));
         }
     }
@@ -150,33 +151,9 @@ pub(crate) fn end(tokens: &[(usize, Token)], length: usize) -> Result<(), ReadFa
     }
 }
 
-/// A name of one part other than `_`.
-fn is_plain(name: &Name) -> bool
-    ensures { result ≡ is_plain name.now }
-{
-    name.parts() == 1 && name.text() != "_"
-}
-
 /// A plain name of at most 64 bytes.
 fn is_label(name: &Name) -> bool
     ensures { result ≡ is_label name.now }
 {
-    is_plain(name) && name.text().len() <= 64
-}
-
-/// The number of units that digits write: no leading zero, and at most 10,000,000.
-fn units(digits: &[u8]) -> Option<u64>
-    ensures { result ≡ units digits.now }
-{
-    if digits.len() > 1 && digits[0] == b'0' {
-        return None;
-    }
-    let mut value: u64 = 0;
-    for digit in digits {
-        value = value * 10 + u64::from(digit.saturating_sub(b'0'));
-        if value > 10_000_000 {
-            return None;
-        }
-    }
-    Some(value)
+    name.is_plain() && name.text().len() <= 64
 }

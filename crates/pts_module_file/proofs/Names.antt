@@ -2,7 +2,7 @@
 use Rattle.std.proofs.Common.{ℕ, suc, ◌≡◌, refl, subst, List, [], ◌∷◌, ◌++◌, Bool, true, false, ◌&&◌, cond, Option, Some, None, Result, Ok, Err}
 use Rattle.std.specs.Prelude.{take, drop, codes}
 use Rattle.std.specs.Str.{is_utf8}
-use Rattle.pts_names.specs.Name.{Name, same_name}
+use Rattle.pts_names.specs.Name.{Name, same_name, is_short}
 use Rattle.pts_parser.specs.declared.fault.ReadFault.{ReadFault}
 use Rattle.pts_lines.specs.declared.command.Declaring.{Declaring}
 use Rattle.pts_lines.specs.declared.command.Declaring.TheVariants as declaring
@@ -13,7 +13,7 @@ use Rattle.pts_module_file.specs.declared.fault.Why.TheVariants.{Form}
 use Rattle.pts_module_file.specs.declared.stage.Stage.{Stage}
 use Rattle.pts_module_file.specs.declared.stage.Stage.TheVariants.{Format, Module, Uses, Parameters, Declarations, Ended}
 use Rattle.pts_module_file.specs.Text.{lines_of}
-use Rattle.pts_module_file.specs.Lines.{Entry, passed, fixed, uses, declares, is_short, is_short_text, is_passed, may_declare, behind, name_of, has_short_name, with_short_name, declared, ending, declaring_line, later_line, uses_line, format_line, module_line, staged_line, line_at}
+use Rattle.pts_module_file.specs.Lines.{Entry, passed, fixed, uses, declares, is_short_text, is_passed, may_declare, behind, name_of, has_short_name, with_short_name, declared, ending, declaring_line, later_line, uses_line, format_line, module_line, staged_line, line_at}
 use Rattle.pts_module_file.specs.File.{File, AllShort, with_entry, at_last, behind_line, read_lines, module_of}
 
 abbrev EntryShort : Entry → Type 0

@@ -1,11 +1,10 @@
 -- A file is read line by line.
 use Rattle.std.proofs.Common.{ℕ, suc, ◌≡◌, ◌≢◌, ◌≤◌, refl, sym, ◌∙◌, ap, arith, List, ◌∷◌, length, Bool, true, false, ◌&&◌, cond, nat_le, Some, None, Ok, Err}
 use Rattle.std.specs.Str.{is_utf8}
-use Rattle.pts_names.specs.Name.{Name, is_identifier, name_fault, UnlessMemory}
+use Rattle.pts_names.specs.Name.{Name, is_identifier, name_fault, UnlessMemory, is_plain}
 use Rattle.pts_names.specs.declared.fault.NameFault.{NameFault}
 use Rattle.pts_names.specs.declared.fault.NameFault.TheVariants.{Empty, BadStart, BadPart, TooLong, Memory as NoMemory}
 use Rattle.pts_names.proofs.OnePart.{identifier_is_name}
-use Rattle.pts_parser.specs.Resolution.{is_plain}
 use Rattle.pts_module_file.specs.declared.fault.Why.TheVariants.{Form}
 use Rattle.pts_module_file.specs.declared.fault.Refusal.{Refusal}
 use Rattle.pts_module_file.specs.declared.fault.Refusal.TheVariants.{Because, Memory}

@@ -1,8 +1,7 @@
 -- What a line of a module file is, where it may stand.
-use Rattle.std.specs.Prelude.{ℕ, ◌&&◌, nat_le, length, take, drop, Bool, true, false, if◌then◌else◌, List, [], ◌∷◌, codes, Option, Some, None, Result, Ok, Err}
+use Rattle.std.specs.Prelude.{ℕ, ◌&&◌, take, drop, Bool, true, false, if◌then◌else◌, List, [], ◌∷◌, codes, Option, Some, None, Result, Ok, Err}
 use Rattle.std.specs.Str.{is_utf8}
-use Rattle.pts_names.specs.Name.{Name, same_name}
-use Rattle.pts_parser.specs.Resolution.{is_plain}
+use Rattle.pts_names.specs.Name.{Name, same_name, is_short}
 use Rattle.pts_parser.specs.declared.fault.ReadFault.{ReadFault}
 use Rattle.pts_lines.specs.declared.command.Declaring.{Declaring}
 use Rattle.pts_lines.specs.declared.command.Declaring.TheVariants as declaring
@@ -13,10 +12,6 @@ use Rattle.pts_module_file.specs.declared.fault.Why.TheVariants.{Form, Read}
 use Rattle.pts_module_file.specs.declared.stage.Stage.{Stage}
 use Rattle.pts_module_file.specs.declared.stage.Stage.TheVariants.{Format, Module, Uses, Parameters, Declarations, Ended}
 use Rattle.pts_module_file.specs.Text.{begins_with}
-
--- A plain name of a file has at most 63 bytes.
-abbrev pub is_short : Name → Bool
-is_short x = is_plain x && nat_le (length x) 63
 
 abbrev pub is_short_text : List ℕ → Bool
 is_short_text x = is_utf8 x && is_short x

@@ -1,6 +1,7 @@
 ghost use Rattle.std.specs.Prelude.{◌≡◌, true, Ok, IfOk, IfErr};
 ghost use Rattle.pts_lines.specs.Seen.{declaration_of};
-ghost use Rattle.pts_module_file.specs.Lines.{declares, is_short};
+ghost use Rattle.pts_module_file.specs.Lines.{declares};
+ghost use Rattle.pts_names.specs.Name.{is_short};
 ghost use Rattle.pts_module_file.specs.File.{file_of, stated_of, with_entry, entry_of, module_of, fault_at, Refuses, AllShort};
 
 use crate::fault::{ModuleFault, Refusal, Why};

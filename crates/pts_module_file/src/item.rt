@@ -1,15 +1,15 @@
 ghost use Rattle.std.specs.Prelude.{◌≡◌, true, false, MatchOption, Some, None, IfOk, OnOk, take, drop, if◌then◌else◌};
 ghost use Rattle.std.specs.Str.{is_utf8};
-ghost use Rattle.pts_names.specs.Name.{same_name};
-ghost use Rattle.pts_parser.specs.Resolution.{is_plain};
+ghost use Rattle.pts_names.specs.Name.{same_name, is_plain, is_short};
 ghost use Rattle.pts_lines.specs.Reading.{declaration_said, declared_first};
 ghost use Rattle.pts_lines.specs.Seen.{declaration_of};
 ghost use Rattle.pts_module_file.specs.File.{AnswersAs, entry_of, IsRead};
 ghost use Rattle.pts_module_file.specs.Lines as lines;
-ghost use Rattle.pts_module_file.specs.Lines.{is_short, is_short_text, is_passed, has_short_name, name_of};
+ghost use Rattle.pts_module_file.specs.Lines.{is_short_text, is_passed, has_short_name, name_of};
 
 use crate::fault::{Refusal, Why};
 use crate::stage::{Item, Stage, behind, may_declare};
+use pts_bytes::{is_text, text_of};
 use pts_lines::{Declaration, Declaring, declaring_word, read_declaration};
 use pts_names::{Name, NameFault};
 use pts_parser::ReadFault;
@@ -58,7 +58,7 @@ fn staged_line(
 fn format_line(line: &[u8]) -> Result<(Stage, Item), Refusal>
     ensures { AnswersAs (λ r. (r.0, entry_of r.1)) result (lines.format_line line.now) }
 {
-    if is(line, "yarrow-module 1") {
+    if is_text(line, "yarrow-module 1") {
         return Ok((Stage::Module, Item::Fixed));
     }
     Err(Refusal::Because(Why::Form))
@@ -70,7 +70,7 @@ fn module_line(asked: &Name, line: &[u8]) -> Result<(Stage, Item), Refusal>
     ensures { AnswersAs (λ r. (r.0, entry_of r.1)) result (lines.module_line asked.now line.now) }
 {
     let (front, name) = line.split_at(line.len().min(7));
-    if is_short(asked) && is(front, "module ") && is(name, asked.text()) {
+    if asked.is_short() && is_text(front, "module ") && is_text(name, asked.text()) {
         return Ok((Stage::Uses, Item::Fixed));
     }
     Err(Refusal::Because(Why::Form))
@@ -83,7 +83,7 @@ fn uses_line(alloc: Global, line: &[u8], text: &str) -> Result<(Stage, Item), Re
     ensures { AnswersAs (λ r. (r.0, entry_of r.1)) result (lines.uses_line line.now) }
 {
     let (front, name) = line.split_at(line.len().min(5));
-    if is(front, "uses ") {
+    if is_text(front, "uses ") {
         if let Some(used) = short_name(alloc, name)? {
             return Ok((Stage::Uses, Item::Uses(used)));
         }
@@ -131,7 +131,7 @@ fn with_short_name(declaration: Declaration) -> Result<(Stage, Item), Refusal>
     ensures { AnswersAs (λ r. (r.0, entry_of r.1)) result (lines.with_short_name (declaration_of declaration)) }
 {
     let declaring = declaring_of(&declaration);
-    if !is_short(name_of(&declaration)) {
+    if !name_of(&declaration).is_short() {
         return Err(Refusal::Because(Why::Form));
     }
     Ok((behind(declaring), Item::Declared(declaration)))
@@ -178,7 +178,7 @@ fn short_name(alloc: Global, bytes: &[u8]) -> Result<Option<Name>, AllocError>
     };
     match Name::read(alloc, text) {
         Ok(name) => {
-            if is_short(&name) {
+            if name.is_short() {
                 return Ok(Some(name));
             }
             Ok(None)
@@ -190,20 +190,6 @@ fn short_name(alloc: Global, bytes: &[u8]) -> Result<Option<Name>, AllocError>
     }
 }
 
-/// A plain name of at most 63 bytes.
-fn is_short(name: &Name) -> bool
-    ensures { result ≡ is_short name.now }
-{
-    is_plain(name) && name.text().len() <= 63
-}
-
-/// A name of one part other than `_`.
-fn is_plain(name: &Name) -> bool
-    ensures { result ≡ is_plain name.now }
-{
-    name.parts() == 1 && name.text() != "_"
-}
-
 /// An empty line, or one that begins with `%`.
 fn is_passed(line: &[u8]) -> bool
     ensures { result ≡ is_passed line.now }
@@ -211,23 +197,5 @@ fn is_passed(line: &[u8]) -> bool
     match line.first() {
         None => true,
         Some(byte) => *byte == b'%',
-    }
-}
-
-/// Whether the bytes are those of the text.
-#[tactic(auto, using(crate::proofs::Pieces::same_bytes))]
-fn is(bytes: &[u8], text: &str) -> bool
-    ensures { result ≡ same_name bytes.now text.now }
-{
-    bytes == text.as_bytes()
-}
-
-/// The text that bytes are, where they are UTF-8.
-fn text_of(bytes: &[u8]) -> Option<&str>
-    ensures { MatchOption result (is_utf8 bytes.now ≡ false) (λ text. (is_utf8 bytes.now ≡ true) × (text.now ≡ bytes.now)) }
-{
-    match str::from_utf8(bytes) {
-        Ok(text) => Some(text),
-        Err(_) => None,
     }
 }

@@ -6,3 +6,4 @@ pub mod Sound
 pub mod Spelling
 pub mod OnePart
 pub mod Dotted
+pub mod Plain

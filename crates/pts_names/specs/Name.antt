@@ -1,6 +1,6 @@
 -- What text is a name: one or more identifiers joined by single dots, in at most 128 bytes.
 -- Texts are lists of bytes, as UTF-8; words and parts of a text are lists of its characters.
-use Rattle.std.specs.Prelude.{ℕ, ◌+◌, ◌==◌, ◌||◌, ◌&&◌, not, List, [], ◌∷◌, ◌++◌, Bool, true, false, if◌then◌else◌, Option, Some, None, is_none, nat_lt, length, codes, chars}
+use Rattle.std.specs.Prelude.{ℕ, ◌+◌, ◌==◌, ◌||◌, ◌&&◌, not, List, [], ◌∷◌, ◌++◌, Bool, true, false, if◌then◌else◌, Option, Some, None, is_none, nat_le, nat_lt, length, codes, chars}
 use Rattle.std.specs.Option.{option_or}
 use Rattle.std.specs.Char.{len_utf8}
 use Rattle.unicode_ident.specs.Ident.{is_xid_start, is_xid_continue}
@@ -77,6 +77,18 @@ part_count name = length (parts (chars name))
 -- A text that is one identifier, at any length.
 unfoldable pub is_identifier : List ℕ → Bool
 is_identifier text = is_none (identifier_fault 0 (chars text))
+
+-- The name that a binder has where its variable is not used.
+abbrev pub underscore : Name
+underscore = codes "_"
+
+-- A plain name: one part, and not `_`.
+abbrev pub is_plain : Name → Bool
+is_plain x = is_identifier x && not (same_name x underscore)
+
+-- A plain name of at most 63 bytes. After a label of at most 64 bytes and a dot it makes a name of at most 128.
+abbrev pub is_short : Name → Bool
+is_short x = is_plain x && nat_le (length x) 63
 
 -- The spelling of a sort: `*`, `#`, or `'` and one identifier, at any length.
 abbrev pub is_quoted : List ℕ → Bool

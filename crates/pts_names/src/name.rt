@@ -91,6 +91,20 @@ impl Name {
         part_count(self.text.as_str())
     }
 
+    /// Whether it is one identifier, and not `_`: what a binder, a declaration and a module may be called.
+    pub fn is_plain(&self) -> bool
+        ensures { result ≡ names.is_plain self.now }
+    {
+        self.parts() == 1 && self.text() != "_"
+    }
+
+    /// Whether it is plain and has at most 63 bytes, so that it fits after a label of 64 bytes and a dot.
+    pub fn is_short(&self) -> bool
+        ensures { result ≡ names.is_short self.now }
+    {
+        self.is_plain() && self.text.len() <= 63
+    }
+
     /// The text. It is a name: from 1 to 128 bytes.
     pub fn text(&self) -> &str
         ensures text { result.now ≡ self.now }

@@ -2,9 +2,8 @@
 use Rattle.std.proofs.Common.{◌≡◌, refl, sym, ◌∙◌, ap, ℕ, suc, ◌+◌, ◌-◌, ◌<◌, ◌≤◌, List, [], ◌∷◌, ◌++◌, Bool, true, false, not, ◌&&◌, cond, Option, Some, None, option_map, length, take, get_or, reverse, arith}
 use Rattle.std.proofs.lemmas.List.{reverse-append, take_all}
 use Rattle.std.proofs.Math.Seq.{take-suc}
-use Rattle.pts_names.specs.Name.{Name, same_name, is_identifier}
-use Rattle.pts_grammar.specs.Grammar.{underscore}
-use Rattle.pts_parser.specs.Resolution.{place_of, is_plain}
+use Rattle.pts_names.specs.Name.{Name, same_name, is_identifier, underscore, is_plain}
+use Rattle.pts_parser.specs.Resolution.{place_of}
 
 pub reverse_more : {A : Type 0} (fs : List A) (f : A) → reverse (fs ++ f ∷ []) ≡ f ∷ reverse fs
 reverse_more fs f = reverse-append fs (f ∷ [])
@@ -67,10 +66,3 @@ pub loop_ends : (names : List Name) (x : Name) (left n : ℕ) → left ≤ 0 →
 loop_ends names x left n none same =
     let e : left ≡ 0 = omega arith in
     ap (λ m. behind n (place_of x (reverse (take m names)))) (sym e) ∙ same
-
--- A name of one part that is not `_` is plain.
-pub plain_is : (x : Name) → is_identifier x ≡ true → (b : Bool) → b ≡ not (same_name x underscore) → b ≡ is_plain x
-plain_is x e b h = h ∙ ap (λ a. a && not (same_name x underscore)) (sym e)
-
-pub plain_is_not : (x : Name) → is_identifier x ≡ false → false ≡ is_plain x
-plain_is_not x e = ap (λ a. a && not (same_name x underscore)) (sym e)

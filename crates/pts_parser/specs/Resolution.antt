@@ -1,18 +1,13 @@
 -- The names of a syntax, looked up.
 use Rattle.std.specs.Prelude.{◌≡◌, ℕ, suc, List, [], ◌∷◌, Bool, not, ◌&&◌, if◌then◌else◌, Option, Some, None, option_map, Result, Ok, Err}
-use Rattle.pts_names.specs.Name.{Name, same_name, is_identifier}
+use Rattle.pts_names.specs.Name.{Name, same_name, is_plain}
 use Rattle.pts_terms.specs.Tree.{Named, sort, const, var, app, named_lam, named_pi, named_let}
 use Rattle.pts_terms.specs.Seen.{named}
 use Rattle.pts_terms.specs.declared.term.Term.{Term}
 use Rattle.pts_ctx.specs.System.{sort_of}
 use Rattle.pts_grammar.specs.Syntax.{Syntax, sort as a_sort, name as a_name, app as applied, lam, pi, let_in}
-use Rattle.pts_grammar.specs.Grammar.{underscore}
 use Rattle.pts_parser.specs.declared.fault.ReadFault.{ReadFault}
 use Rattle.pts_parser.specs.declared.fault.ReadFault.TheVariants.{BadChar, LongName, Expected, TooDeep, UnknownName, UnknownSort, Memory}
-
--- A plain name: one part, and not `_`.
-abbrev pub is_plain : Name → Bool
-is_plain x = is_identifier x && not (same_name x underscore)
 
 -- The place of the first of these names that is x.
 abbrev pub place_of : Name → List Name → Option ℕ

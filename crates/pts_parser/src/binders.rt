@@ -1,6 +1,7 @@
 ghost use Rattle.std.specs.Prelude.{◌≡◌, ◌∷◌, IfOk, OnOk, reverse};
 ghost use Rattle.pts_parser.specs.Calls.{outer};
-ghost use Rattle.pts_parser.specs.Resolution.{place_of, is_plain, binder_of};
+ghost use Rattle.pts_parser.specs.Resolution.{place_of, binder_of};
+ghost use Rattle.pts_names.specs.Name.{is_plain};
 
 use pts_names::Name;
 use std::alloc::{AllocError, AllocFailed, Global};
@@ -56,7 +57,7 @@ impl Binders {
     pub(crate) fn index_of(&self, name: &Name) -> Option<usize>
         ensures { result ≡ binder_of name.now self.now }
     {
-        if !is_plain(name) {
+        if !name.is_plain() {
             return None;
         }
         place_among(self.names.as_slice(), name)
@@ -77,9 +78,3 @@ fn place_among(names: &[Name], name: &Name) -> Option<usize>
     None
 }
 
-/// A name of one part other than `_`.
-fn is_plain(name: &Name) -> bool
-    ensures { result ≡ is_plain name.now }
-{
-    name.parts() == 1 && name.text() != "_"
-}

@@ -4,9 +4,8 @@ use Rattle.std.specs.Prelude.{IsUtf8, chars, codes}
 use Rattle.std.proofs.lemmas.List.{append-nil}
 use Rattle.std.proofs.lemmas.Str.{chars-append, chars-encodes, chars-nil}
 use lib.Utf8.{encode, encodes, scalars}
-use Rattle.pts_names.specs.Name.{Name, same_name}
+use Rattle.pts_names.specs.Name.{Name, same_name, underscore}
 use Rattle.pts_grammar.specs.Syntax.{Syntax, sort, name, app, lam, pi, let_in}
-use Rattle.pts_grammar.specs.Grammar.{underscore}
 use Rattle.pts_printed.specs.Text.{is_binding, is_compound, in_parens, binder_text, text_of}
 use Rattle.pts_printed.proofs.Lexed.{HasWords, chars_in, chars_before}
 

@@ -6,14 +6,12 @@ use Rattle.std.proofs.lemmas.List.{length-append}
 use Rattle.std.specs.Str as str
 use lib.Utf8.{encode}
 use Rattle.unicode_ident.proofs.Computing.{unicode_ident}
-use Rattle.pts_names.specs.Name.{Name, same_name, is_identifier}
+use Rattle.pts_names.specs.Name.{Name, same_name, is_identifier, underscore, is_plain}
 use Rattle.pts_names.proofs.Same.{same_name-true}
 use Rattle.pts_names.proofs.OnePart.{identifier_is_name}
 use Rattle.pts_terms.specs.Tree.{Tree, Named, sort, const, var, app, named_lam, named_pi, named_let}
 use Rattle.pts_terms.specs.Limits.{size_of}
-use Rattle.pts_grammar.specs.Grammar.{underscore}
 use Rattle.pts_grammar.proofs.Underscore.{underscore_is_identifier}
-use Rattle.pts_parser.specs.Resolution.{is_plain}
 use Rattle.pts_printed.specs.Choice.{occurs, constants, occurring, forbidden, is_among, numbered, allowed, letter_x, base, if_short, choice, chosen}
 use Rattle.pts_printed.specs.Laws.{IsName}
 use Rattle.pts_printed.proofs.Numerals.{numbers_apart, not_underscore, numbered_identifier, numbered_utf8, numeral_short}

@@ -1,12 +1,11 @@
 -- The names of a spelled term are found again: it is resolved to the term with its chosen names.
 use Rattle.std.proofs.Common.{ℕ, zero, suc, ◌<◌, ◌+◌, ◌≡◌, refl, sym, ◌∙◌, ap, List, [], ◌∷◌, ◌++◌, Bool, true, false, cond, not, ◌&&◌, ◌||◌, nat_eq, Option, Some, None, option_map, Ok, length, get_or, arith}
-use Rattle.pts_names.specs.Name.{Name, same_name, is_identifier}
+use Rattle.pts_names.specs.Name.{Name, same_name, is_identifier, underscore, is_plain}
 use Rattle.pts_names.proofs.Same.{same_name-self}
 use Rattle.pts_terms.specs.Tree.{Named, sort, const, var, app, named_lam, named_pi, named_let, bare}
 use Rattle.pts_terms.specs.Limits.{size_of}
-use Rattle.pts_grammar.specs.Grammar.{underscore}
 use Rattle.pts_grammar.proofs.Underscore.{underscore_is_identifier}
-use Rattle.pts_parser.specs.Resolution.{is_plain, place_of, binder_of, constant_at, name_at, sort_at, resolved}
+use Rattle.pts_parser.specs.Resolution.{place_of, binder_of, constant_at, name_at, sort_at, resolved}
 use Rattle.pts_printed.specs.Choice.{occurs, if_one_part, constants, occurring, forbidden, is_among, chosen}
 use Rattle.pts_printed.specs.Spelled.{product_name, spelled}
 use Rattle.pts_printed.specs.Laws.{IsName, HasNames, SortsBelow, Stands, SpellSorts}

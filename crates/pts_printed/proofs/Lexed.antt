@@ -7,14 +7,13 @@ use lib.Utf8.{encode, encodes}
 use Rattle.std.proofs.lemmas.Str.{encodes-chars, encode_ascii, chars_past_char}
 use Rattle.std.proofs.Common.{lit<}
 use Rattle.unicode_ident.proofs.Computing.{unicode_ident}
-use Rattle.pts_names.specs.Name.{Name, same_name, width, is_identifier, is_quoted, is_sort_spelling}
+use Rattle.pts_names.specs.Name.{Name, same_name, width, is_identifier, is_quoted, is_sort_spelling, underscore}
 use Rattle.pts_names.proofs.Same.{same_name-true}
 use Rattle.pts_names.proofs.OnePart.{identifier_has_no_fault}
 use Rattle.pts_tokens.specs.declared.token.Token.{Token}
 use Rattle.pts_tokens.specs.declared.token.Token.TheVariants.{Lambda, At, Let, In, Colon, Assign, Dot, Arrow, Open, Close, Sort, Name as Word}
 use Rattle.pts_tokens.specs.Tokens.{Spot, token, no_token, first, begins_with, sort_text, with_spot, from_first, tokens_behind}
 use Rattle.pts_grammar.specs.Syntax.{Syntax, sort, name, app, lam, pi, let_in}
-use Rattle.pts_grammar.specs.Grammar.{underscore}
 use Rattle.pts_printed.specs.Text.{is_binding, is_compound, between_parens, tokens_before}
 use Rattle.pts_printed.specs.Laws.{IsName, IsSpelling}
 use Rattle.pts_printed.proofs.Written.{Holds, nothing, also}

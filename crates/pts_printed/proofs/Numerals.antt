@@ -7,12 +7,11 @@ use Rattle.std.proofs.lemmas.Fmt.{decimal_is_IsNumeral_wide, IsAscii-decimal_wid
 use Rattle.std.proofs.lemmas.Str.Parse.{digit_from_value}
 use Rattle.std.proofs.lemmas.Str.{chars-append, chars-IsAscii, IsUtf8-append, IsUtf8-from_ascii}
 use Rattle.unicode_ident.proofs.IdentLemmas.{is_xid_continue-ascii}
-use Rattle.pts_names.specs.Name.{Name, same_name, is_identifier, is_keyword, identifier_fault, rest_fault, starts_identifier, continues_identifier}
+use Rattle.pts_names.specs.Name.{Name, same_name, is_identifier, is_keyword, identifier_fault, rest_fault, starts_identifier, continues_identifier, underscore}
 use Rattle.pts_names.specs.declared.fault.NameFault.TheVariants.{BadStart, BadPart}
 use Rattle.pts_names.proofs.Same.{same_name-true}
 use Rattle.pts_names.proofs.OnePart.{identifier_has_no_fault}
 use Rattle.pts_names.proofs.Sound.{sound_else, sound_then}
-use Rattle.pts_grammar.specs.Grammar.{underscore}
 
 pub decimal_apart : (m n : ℕ) → m < 10 ^ 64 → n < 10 ^ 64 → decimal m ≡ decimal n → m ≡ n
 decimal_apart m n k l e = sym (decimal_is_IsNumeral_wide m k).1 ∙ ap (digits_value 10) e ∙ (decimal_is_IsNumeral_wide n l).1

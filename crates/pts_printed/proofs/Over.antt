@@ -2,10 +2,10 @@
 use Rattle.std.proofs.Common.{ℕ, zero, suc, ◌+◌, ◌^◌, ◌<◌, ◌≡◌, refl, sym, ◌∙◌, ap, subst, List, [], ◌∷◌, ◌++◌, Bool, true, false, cond, ◌||◌, eqb-true, None, Some, option_map, length, get_or, reverse, append_assoc, arith}
 use Rattle.std.specs.List.{AllByRecursion}
 use Rattle.std.proofs.lemmas.List.{reverse-append, append-nil, length-append}
-use Rattle.pts_names.specs.Name.{Name, same_name}
+use Rattle.pts_names.specs.Name.{Name, same_name, is_plain}
 use Rattle.pts_names.proofs.Same.{same_name-self}
 use Rattle.pts_terms.specs.Tree.{Tree, Named, sort, const, var, app, named_lam, named_pi, named_let, Below}
-use Rattle.pts_parser.specs.Resolution.{is_plain, place_of}
+use Rattle.pts_parser.specs.Resolution.{place_of}
 use Rattle.pts_printed.specs.Choice.{occurs, constants, is_among, choice}
 use Rattle.pts_printed.specs.Locals.{named_locals, uses}
 use Rattle.pts_printed.specs.Laws.{IsName}

@@ -3,12 +3,11 @@ use Rattle.std.proofs.Common.{ℕ, zero, suc, ◌+◌, ◌^◌, ◌<◌, ◌≤�
 use Rattle.std.specs.Prelude.{chars}
 use Rattle.std.proofs.lemmas.Bool.{leb-true}
 use Rattle.std.proofs.lemmas.List.{length-reverse}
-use Rattle.pts_names.specs.Name.{Name, is_identifier}
+use Rattle.pts_names.specs.Name.{Name, is_identifier, underscore}
 use Rattle.pts_terms.specs.Tree.{Named, sort, const, var, app, named_lam, named_pi, named_let, Below}
 use Rattle.pts_terms.specs.Limits.{depth_of, size_of}
 use Rattle.pts_tokens.specs.Tokens.{tokens_of}
 use Rattle.pts_grammar.specs.Syntax.{depth_of as syntax_depth}
-use Rattle.pts_grammar.specs.Grammar.{underscore}
 use Rattle.pts_grammar.proofs.Underscore.{underscore_is_identifier}
 use Rattle.pts_printed.specs.Choice.{occurs, constants, chosen}
 use Rattle.pts_printed.specs.Spelled.{product_name, spelled}

@@ -1,11 +1,10 @@
 -- No parenthesis of a written text is one too many, where the syntax is not too deep.
 use Rattle.std.proofs.Common.{ℕ, suc, pred, ◌+◌, ◌≤◌, ◌<◌, ◌≡◌, refl, sym, ◌∙◌, ap, subst, List, [], ◌∷◌, ◌++◌, Bool, true, false, cond, arith}
-use Rattle.pts_names.specs.Name.{same_name}
+use Rattle.pts_names.specs.Name.{same_name, underscore}
 use Rattle.pts_tokens.specs.declared.token.Token.{Token}
 use Rattle.pts_tokens.specs.declared.token.Token.TheVariants.{Lambda, At, Let, In, Colon, Assign, Dot, Arrow, Open, Close, Semicolon, Sort, Name as Word, Number}
 use Rattle.pts_tokens.specs.Tokens.{Spot}
 use Rattle.pts_grammar.specs.Syntax.{Syntax, sort, name, app, lam, pi, let_in, depth_of}
-use Rattle.pts_grammar.specs.Grammar.{underscore}
 use Rattle.pts_grammar.specs.Refusals.{open_behind, too_many, NoneTooMany}
 use Rattle.pts_printed.specs.Text.{is_binding, is_compound, between_parens, tokens_before}
 use Rattle.pts_printed.proofs.Written.{Holds, also, unplaced}

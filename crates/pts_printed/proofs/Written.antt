@@ -1,13 +1,13 @@
 -- The tokens that are written of a syntax are a text of it, at whatever places they stand.
 use Rattle.std.proofs.Common.{ℕ, ◌≡◌, refl, sym, List, [], ◌∷◌, Bool, true, false, cond, subst}
 use mathlib.Core.Path.{ap₂}
-use Rattle.pts_names.specs.Name.{Name, same_name, is_identifier}
+use Rattle.pts_names.specs.Name.{Name, same_name, is_identifier, underscore}
 use Rattle.pts_names.proofs.Same.{same_name-true}
 use Rattle.pts_tokens.specs.declared.token.Token.{Token}
 use Rattle.pts_tokens.specs.declared.token.Token.TheVariants.{Lambda, At, Let, In, Colon, Assign, Dot, Arrow, Open, Close, Sort, Name as Word}
 use Rattle.pts_tokens.specs.Tokens.{Spot}
 use Rattle.pts_grammar.specs.Syntax.{Syntax, sort, name, app, lam, pi, let_in}
-use Rattle.pts_grammar.specs.Grammar.{underscore, Reads, abstraction, product, definition, application, arrow, App, atoms, Args, no_more, one_more, Atom, a_sort, a_name, parentheses}
+use Rattle.pts_grammar.specs.Grammar.{Reads, abstraction, product, definition, application, arrow, App, atoms, Args, no_more, one_more, Atom, a_sort, a_name, parentheses}
 use Rattle.pts_printed.specs.Text.{is_binding, is_compound, between_parens, tokens_before}
 
 -- The tokens ts, without their places, are ws.

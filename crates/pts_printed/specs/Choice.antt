@@ -1,8 +1,7 @@
 -- The printed name of a binder.
 use Rattle.std.specs.Prelude.{ℕ, zero, suc, List, [], ◌∷◌, ◌++◌, Bool, false, ◌||◌, if◌then◌else◌, nat_eq, nat_lt, length, codes, decimal}
-use Rattle.pts_names.specs.Name.{Name, same_name, is_identifier}
+use Rattle.pts_names.specs.Name.{Name, same_name, is_identifier, underscore}
 use Rattle.pts_terms.specs.Tree.{Tree, sort, const, var, app, named_lam, named_pi, named_let}
-use Rattle.pts_grammar.specs.Grammar.{underscore}
 
 -- Whether the variable of index k occurs in a term.
 abbrev pub occurs : {B : Type 0} → ℕ → Tree B → Bool

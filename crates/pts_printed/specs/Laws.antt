@@ -1,11 +1,10 @@
 -- The laws of printed text: the names that are chosen, and that what is printed is read back.
 use Rattle.std.specs.Prelude.{◌≡◌, ◌+◌, decimal, ◌<◌, ◌≤◌, ◌^◌, ℕ, suc, List, [], ◌∷◌, ◌++◌, Bool, true, false, None, Some, Option, Ok, IsUtf8, IsTrue, length, get_or, reverse}
 use Rattle.std.specs.List.{AllByRecursion}
-use Rattle.pts_names.specs.Name.{Name, name_fault, is_identifier, is_sort_spelling}
+use Rattle.pts_names.specs.Name.{Name, name_fault, is_identifier, is_sort_spelling, is_plain}
 use Rattle.pts_terms.specs.Tree.{Tree, Named, sort, const, var, app, named_lam, named_pi, named_let, bare, Below}
 use Rattle.pts_terms.specs.Limits.{within}
 use Rattle.pts_ctx.specs.System.{sort_of, Spelled, system_fault}
-use Rattle.pts_parser.specs.Resolution.{is_plain}
 use Rattle.pts_parser.specs.Reading.{Means}
 use Rattle.pts_printed.specs.Choice.{occurs, forbidden, is_among, allowed, chosen}
 use Rattle.pts_printed.specs.Spelled.{spelled}

@@ -1,9 +1,8 @@
 -- A term with its names chosen and its sorts spelled, which is what is printed.
 use Rattle.std.specs.Prelude.{ℕ, List, [], ◌∷◌, if◌then◌else◌, get_or}
-use Rattle.pts_names.specs.Name.{Name}
+use Rattle.pts_names.specs.Name.{Name, underscore}
 use Rattle.pts_terms.specs.Tree.{Named, sort, const, var, app, named_lam, named_pi, named_let}
 use Rattle.pts_grammar.specs.Syntax.{Syntax, sort as a_sort, name as a_name, app as applied, lam, pi, let_in}
-use Rattle.pts_grammar.specs.Grammar.{underscore}
 use Rattle.pts_printed.specs.Choice.{occurs, chosen}
 
 -- The printed name of the variable of a product. It is `_` exactly where the variable does not occur; such a product is

@@ -1,10 +1,9 @@
 -- How a syntax is written: its tokens, and its text.
 use Rattle.std.specs.Prelude.{ℕ, List, ◌∷◌, ◌++◌, Bool, true, false, if◌then◌else◌, codes}
-use Rattle.pts_names.specs.Name.{same_name}
+use Rattle.pts_names.specs.Name.{same_name, underscore}
 use Rattle.pts_tokens.specs.declared.token.Token.{Token}
 use Rattle.pts_tokens.specs.declared.token.Token.TheVariants.{Lambda, At, Let, In, Colon, Assign, Dot, Arrow, Open, Close, Sort, Name as Word}
 use Rattle.pts_grammar.specs.Syntax.{Syntax, sort, name, app, lam, pi, let_in}
-use Rattle.pts_grammar.specs.Grammar.{underscore}
 
 -- What gets parentheses to the left of an arrow and as a function: abstractions, products and local definitions.
 abbrev pub is_binding : Syntax → Bool

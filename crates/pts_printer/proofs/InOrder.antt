@@ -1,8 +1,7 @@
 -- The names of locals, one after the other.
 use Rattle.std.proofs.Common.{ℕ, ◌+◌, ◌-◌, ◌≡◌, ◌<◌, sym, ◌∙◌, ap, arith, List, [], ◌∷◌, ◌++◌, append_assoc, Bool, ◌&&◌, map, length, drop, get_or}
 use Rattle.std.proofs.lemmas.List.{drop_more, length-append, length-drop}
-use Rattle.pts_names.specs.Name.{Name, same_name}
-use Rattle.pts_grammar.specs.Grammar.{underscore}
+use Rattle.pts_names.specs.Name.{Name, same_name, underscore}
 use Rattle.pts_terms.specs.Tree.{Named}
 use Rattle.pts_terms.specs.Seen.{named}
 use Rattle.pts_terms.specs.declared.term.Term.{Term}

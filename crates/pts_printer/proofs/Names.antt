@@ -3,9 +3,8 @@ use Rattle.std.proofs.Common.{◌≡◌, refl, sym, ◌∙◌, ap, ℕ, suc, ◌
 use Rattle.std.specs.Prelude.{codes, decimal, if◌then◌else◌}
 use Rattle.std.specs.Cmp.Lexicographic.{pointwise}
 use Rattle.std.proofs.lemmas.List.{reverse-append, drop_more}
-use Rattle.pts_names.specs.Name.{Name, same_name, is_identifier}
+use Rattle.pts_names.specs.Name.{Name, same_name, is_identifier, underscore}
 use Rattle.pts_names.proofs.Same.{same_name-pointwise, same_name-true}
-use Rattle.pts_grammar.specs.Grammar.{underscore}
 use Rattle.pts_printer.specs.Clashes.{is_outer}
 use Rattle.pts_printed.specs.Choice.{is_among, base, letter_x, numbered, allowed, if_short, choice}
 

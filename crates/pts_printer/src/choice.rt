@@ -1,8 +1,7 @@
 // The printed names of binders.
 
 ghost use Rattle.std.specs.Prelude.{◌≡◌, ◌++◌, ◌&&◌, IfOk, OnOk};
-ghost use Rattle.pts_names.specs.Name.{same_name};
-ghost use Rattle.pts_grammar.specs.Grammar.{underscore};
+ghost use Rattle.pts_names.specs.Name.{same_name, underscore};
 ghost use Rattle.pts_terms.specs.Seen.{named};
 ghost use Rattle.pts_printed.specs.Choice as choice;
 ghost use Rattle.pts_printed.specs.Spelled as spelled;

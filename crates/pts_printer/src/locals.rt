@@ -3,8 +3,7 @@
 ghost use Rattle.std.specs.Prelude.{◌≡◌, ◌++◌, ◌∷◌, [], IfOk, OnOk, length, map, reverse, vec_len, ◌&&◌};
 ghost use Rattle.pts_terms.specs.Seen.{named};
 ghost use Rattle.pts_printed.specs.Locals as written;
-ghost use Rattle.pts_names.specs.Name.{same_name};
-ghost use Rattle.pts_grammar.specs.Grammar.{underscore};
+ghost use Rattle.pts_names.specs.Name.{same_name, underscore};
 
 use crate::choice::{add_constants, is_underscore, is_used};
 use crate::occurrence::occurs;

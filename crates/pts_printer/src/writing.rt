@@ -1,8 +1,7 @@
 // Terms, as they are written.
 
 ghost use Rattle.std.specs.Prelude.{◌≡◌, ◌++◌, ◌∷◌, [], OnOk, codes, get_or};
-ghost use Rattle.pts_names.specs.Name.{same_name};
-ghost use Rattle.pts_grammar.specs.Grammar.{underscore};
+ghost use Rattle.pts_names.specs.Name.{same_name, underscore};
 ghost use Rattle.pts_terms.specs.Seen.{named};
 ghost use Rattle.pts_printed.specs.Spelled.{spelled};
 ghost use Rattle.pts_printed.specs.Text.{in_parens, is_binding, text_of};

@@ -1,7 +1,6 @@
 -- The forms of words.
 use Rattle.std.specs.Prelude.{ℕ, List, [], ◌∷◌, ◌&&◌, Bool, length, nat_le, if◌then◌else◌, codes, Option, Some, None}
-use Rattle.pts_names.specs.Name.{same_name}
-use Rattle.pts_parser.specs.Resolution.{is_plain}
+use Rattle.pts_names.specs.Name.{same_name, is_plain}
 use Rattle.yarrow.specs.declared.command.Command.{Command as Asked}
 use Rattle.yarrow.specs.declared.command.Command.TheVariants as asked
 

@@ -1,5 +1,6 @@
 use Rattle.std.proofs.Common.{◌≡◌, ◌≤◌, [], true, length}
-use Rattle.pts_certificate.specs.Text.{is_digits, is_number, value}
+use Rattle.pts_bytes.specs.Digits.{is_digits, value}
+use Rattle.pts_certificate.specs.Text.{is_number}
 use Rattle.pts_certificate.proofs.Numbers.{behind}
 use Rattle.pts_certificate.proofs.number.numbers_of.Given as goal
 

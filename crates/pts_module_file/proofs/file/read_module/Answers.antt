@@ -1,6 +1,6 @@
 use Rattle.std.proofs.Common.{◌≡◌, true, Ok}
 use Rattle.std.proofs.lemmas.Result.{IfOk-weaker}
-use Rattle.pts_module_file.specs.Lines.{is_short}
+use Rattle.pts_names.specs.Name.{is_short}
 use Rattle.pts_module_file.specs.File.{AllShort, file_of, module_of}
 use Rattle.pts_module_file.proofs.Names.{all_short}
 use Rattle.pts_module_file.proofs.file.read_module.Goals as goal

@@ -1,6 +1,5 @@
 use Rattle.std.proofs.Common.{◌∙◌, ap, ◌++◌, ◌-◌, ◌&&◌, length}
-use Rattle.pts_names.specs.Name.{same_name}
-use Rattle.pts_grammar.specs.Grammar.{underscore}
+use Rattle.pts_names.specs.Name.{same_name, underscore}
 use Rattle.pts_terms.specs.Seen.{named}
 use Rattle.pts_printed.specs.Choice.{choice, constants, occurs}
 use Rattle.pts_printer.proofs.InOrder.{local_named}

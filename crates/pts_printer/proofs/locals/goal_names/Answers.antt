@@ -1,7 +1,6 @@
 use Rattle.std.proofs.Common.{◌≡◌, ◌∙◌, ap, ◌++◌, ◌+◌, ◌-◌, ◌&&◌, drop, map, take, length, arith}
 use Rattle.std.proofs.lemmas.List.{take_all, length-drop}
-use Rattle.pts_names.specs.Name.{same_name}
-use Rattle.pts_grammar.specs.Grammar.{underscore}
+use Rattle.pts_names.specs.Name.{same_name, underscore}
 use Rattle.pts_terms.specs.Seen.{named}
 use Rattle.pts_printed.specs.Choice.{choice}
 use Rattle.pts_printed.specs.Locals.{goal_constants, occurs_behind}

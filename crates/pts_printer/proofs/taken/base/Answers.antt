@@ -1,6 +1,6 @@
 use Rattle.std.proofs.Common.{sym, ◌∙◌, ap, nat_eq}
 use Rattle.std.specs.Cmp.Lexicographic.{pointwise}
-use Rattle.pts_grammar.specs.Grammar.{underscore}
+use Rattle.pts_names.specs.Name.{underscore}
 use Rattle.pts_printer.proofs.Names.{base_unused, base_plain}
 use Rattle.pts_printer.proofs.taken.base.Goals as goal
 

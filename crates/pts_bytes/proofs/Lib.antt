@@ -1,0 +1,5 @@
+mod Cuts
+mod Lines
+mod Numbers
+mod Utf8
+mod Same
