@@ -9,16 +9,16 @@ use Rattle.pts_rules.specs.Derives.{Legal, legal_empty}
 use Rattle.pts_rules.specs.Meter.{Units, left}
 use Rattle.pts_reduce.specs.Given.{Later}
 use Rattle.pts_reduce_cost.specs.Costs.{Globals}
-use Rattle.pts_module_file.specs.declared.file.Module.{Module}
-use Rattle.pts_module_file.specs.declared.fault.ModuleFault.{ModuleFault}
-use Rattle.pts_module_file.specs.File.{File, file_of, module_of, Refuses}
+use Rattle.pts_module_file.specs.declared.file.ModuleFile.{ModuleFile}
+use Rattle.pts_module_file.specs.declared.fault.FileFault.{FileFault}
+use Rattle.pts_module_file.specs.File.{File, module_file_of, module_of, RefusesModule}
 use Rattle.pts_declare.specs.declared.fault.DeclareFault.{DeclareFault}
 use Rattle.pts_declare.specs.declared.fault.DeclareFault.TheVariants.{Read, Taken, Flawed, Spent, Deep, Memory}
 use Rattle.pts_declare.specs.Answered.{fault_text}
 use Rattle.pts_batch.specs.declared.world.Batch.{Batch}
 use Rattle.pts_batch.specs.Loading.{Loaded, entered, Loads}
-use Rattle.pts_batch.specs.Batches.{Answer, Answers, bad_file, not_built, loaded, Batches, file_is_bad, line_is_not_built, file_is_loaded, refusal, at_line, with_entries, answer_loaded, unbuilt_line}
-use Rattle.pts_batch.specs.Evidence.{entries_of, MayFollow, numbered}
+use Rattle.pts_batch.specs.Batches.{BatchAnswer, BatchAnswers, bad_file, not_built, loaded, Batches, file_is_bad, line_is_not_built, file_is_loaded, refusal, at_line, with_entries, answer_loaded, unbuilt_line}
+use Rattle.pts_batch.specs.Evidence.{declared_entries, MayFollow, numbered}
 use Rattle.pts_batch.specs.Shown.{Evident}
 use Rattle.pts_batch.specs.Calls.{RefusedAt, Stops, AnswersBadFile, AnswersFault}
 use Rattle.pts_batch.specs.declared.loading.LoadFault.{LoadFault}
@@ -32,7 +32,7 @@ both_ok (Err e) P Q R f p q = tt
 
 pub nothing_entered : (S : Specification) (r : Batch) → r.declarations ≡ [] → r.context.entries ≡ [] → Evident S r
 nothing_entered S r d e = record {
-  entries = e ∙ sym (ap entries_of d);
+  entries = e ∙ sym (ap declared_entries d);
   evidence = subst (MayFollow S []) (sym d) tt;
   legal = subst (λ G. Legal S (bare_front G)) (sym e) legal_empty;
 }
@@ -41,35 +41,35 @@ pub nothing_evident : {E : Type 0} (S : Specification) (r : Result Batch E) → 
 nothing_evident S (Ok x) h = nothing_entered S x h.0 h.1
 nothing_evident S (Err e) h = tt
 
-all_entered : (S : Specification) (r : Batch) → r.context.entries ≡ entries_of r.declarations → MayFollow S [] r.declarations → Evident S r
+all_entered : (S : Specification) (r : Batch) → r.context.entries ≡ declared_entries r.declarations → MayFollow S [] r.declarations → Evident S r
 all_entered S r e m = record {
   entries = e;
   evidence = m;
   legal = subst (λ G. Legal S (bare_front G)) (sym e) (follow_legal S r.declarations [] m legal_empty);
 }
 
-pub all_evident : {E : Type 0} (S : Specification) (r : Result Batch E) → IfOk r (λ x. x.context.entries ≡ entries_of x.declarations) → IfOk r (λ x. MayFollow S [] x.declarations) → IfOk r (Evident S)
+pub all_evident : {E : Type 0} (S : Specification) (r : Result Batch E) → IfOk r (λ x. x.context.entries ≡ declared_entries x.declarations) → IfOk r (λ x. MayFollow S [] x.declarations) → IfOk r (Evident S)
 all_evident S (Ok x) e m = all_entered S x e m
 all_evident S (Err f) e m = tt
 
-module _ (S : Specification) (M : Name) (bytes : List ℕ) (b : ℕ) (a : Answer) (u : ℕ) where
-  pub bad_file_answer : (e : ModuleFault) → Refuses M bytes e → AnswersBadFile M e a → u ≡ 0 → Answers S M bytes b a u
-  bad_file_answer (ModuleFault.BadFile n w) r q z = (bad_file n w, (b, file_is_bad r, omega (arith, z)), q)
-  bad_file_answer ModuleFault.Memory r q z = absurd q
+module _ (S : Specification) (M : Name) (bytes : List ℕ) (b : ℕ) (a : BatchAnswer) (u : ℕ) where
+  pub bad_file_answer : (e : FileFault) → RefusesModule M bytes e → AnswersBadFile M e a → u ≡ 0 → BatchAnswers S M bytes b a u
+  bad_file_answer (FileFault.BadFile n w) r q z = (bad_file n w, (b, file_is_bad r, omega (arith, z)), q)
+  bad_file_answer FileFault.Memory r q z = absurd q
 
-  pub not_built_answer : (f : File) (n : ℕ) → module_of M bytes ≡ Ok f → unbuilt_line f ≡ Some n → a ≡ refusal M (codes "NotBuilt " ++ decimal n) → u ≡ 0 → Answers S M bytes b a u
+  pub not_built_answer : (f : File) (n : ℕ) → module_of M bytes ≡ Ok f → unbuilt_line f ≡ Some n → a ≡ refusal M (codes "NotBuilt " ++ decimal n) → u ≡ 0 → BatchAnswers S M bytes b a u
   not_built_answer f n e l q z = (not_built n, (b, line_is_not_built e l, omega (arith, z)), q)
 
-  loaded_so : (m : Module) (o : Loaded) (k : ℕ) → module_of M bytes ≡ Ok (file_of m) → unbuilt_line (file_of m) ≡ None → Loads S M [] (map numbered m.declarations.items) b o k → Batches S M bytes b (loaded o) k
+  loaded_so : (m : ModuleFile) (o : Loaded) (k : ℕ) → module_of M bytes ≡ Ok (module_file_of m) → unbuilt_line (module_file_of m) ≡ None → Loads S M [] (map numbered m.declarations.items) b o k → Batches S M bytes b (loaded o) k
   loaded_so m o k e l h = file_is_loaded e l (subst (λ ds. Loads S M [] ds b o k) (sym (statements_seen m.declarations.items)) h)
 
-  pub entered_answer : (m : Module) (G : Globals) (k : ℕ) → module_of M bytes ≡ Ok (file_of m) → unbuilt_line (file_of m) ≡ None → Loads S M [] (map numbered m.declarations.items) b (entered G) k → u + k ≡ b → a ≡ with_entries S.sorts M G → Answers S M bytes b a u
+  pub entered_answer : (m : ModuleFile) (G : Globals) (k : ℕ) → module_of M bytes ≡ Ok (module_file_of m) → unbuilt_line (module_file_of m) ≡ None → Loads S M [] (map numbered m.declarations.items) b (entered G) k → u + k ≡ b → a ≡ with_entries S.sorts M G → BatchAnswers S M bytes b a u
   entered_answer m G k e l h v q = (loaded (entered G), (k, loaded_so m _ k e l h, v), q)
 
-  stopped_so : (m : Module) (o : Loaded) (k : ℕ) → module_of M bytes ≡ Ok (file_of m) → unbuilt_line (file_of m) ≡ None → Loads S M [] (map numbered m.declarations.items) b o k → u + k ≡ b → a ≡ answer_loaded S.sorts M o → Answers S M bytes b a u
+  stopped_so : (m : ModuleFile) (o : Loaded) (k : ℕ) → module_of M bytes ≡ Ok (module_file_of m) → unbuilt_line (module_file_of m) ≡ None → Loads S M [] (map numbered m.declarations.items) b o k → u + k ≡ b → a ≡ answer_loaded S.sorts M o → BatchAnswers S M bytes b a u
   stopped_so m o k e l h v q = (loaded o, (k, loaded_so m o k e l h, v), q)
 
-  refused_at : (m : Module) (n : ℕ) (t : DeclareFault) (k : ℕ) → module_of M bytes ≡ Ok (file_of m) → unbuilt_line (file_of m) ≡ None → RefusedAt (Loads S M [] (map numbered m.declarations.items)) b k n t → u + k ≡ b → a ≡ refusal M (at_line n (fault_text S.sorts t)) → Answers S M bytes b a u
+  refused_at : (m : ModuleFile) (n : ℕ) (t : DeclareFault) (k : ℕ) → module_of M bytes ≡ Ok (module_file_of m) → unbuilt_line (module_file_of m) ≡ None → RefusedAt (Loads S M [] (map numbered m.declarations.items)) b k n t → u + k ≡ b → a ≡ refusal M (at_line n (fault_text S.sorts t)) → BatchAnswers S M bytes b a u
   refused_at m n (Read x) k e l h v q = stopped_so m _ k e l h v q
   refused_at m n (Taken x p) k e l h v q = stopped_so m _ k e l h v q
   refused_at m n (Flawed part f) k e l h v q = stopped_so m _ k e l h v q
@@ -77,7 +77,7 @@ module _ (S : Specification) (M : Name) (bytes : List ℕ) (b : ℕ) (a : Answer
   refused_at m n Deep k e l h v q = stopped_so m _ k e l h v q
   refused_at m n Memory k e l h v q = absurd h
 
-  pub fault_answer : (m : Module) (t : LoadFault) (k : ℕ) → module_of M bytes ≡ Ok (file_of m) → unbuilt_line (file_of m) ≡ None → Stops (Loads S M [] (map numbered m.declarations.items)) b k t → u + k ≡ b → AnswersFault S.sorts M t a → Answers S M bytes b a u
+  pub fault_answer : (m : ModuleFile) (t : LoadFault) (k : ℕ) → module_of M bytes ≡ Ok (module_file_of m) → unbuilt_line (module_file_of m) ≡ None → Stops (Loads S M [] (map numbered m.declarations.items)) b k t → u + k ≡ b → AnswersFault S.sorts M t a → BatchAnswers S M bytes b a u
   fault_answer m (load.Refused n t) k e l h v q = refused_at m n t k e l h v q
   fault_answer m load.Memory k e l h v q = absurd q
 

@@ -14,7 +14,7 @@ use Rattle.pts_declare.specs.declared.fault.DeclareFault.TheVariants.{Read, Take
 use Rattle.pts_declare.specs.Declaring.{Declares}
 use Rattle.pts_declare.specs.Answered.{MayEnter, NotDeclared}
 use Rattle.pts_batch.specs.Loading.{Loaded, entered, Loads, no_statement}
-use Rattle.pts_batch.specs.Evidence.{entries_of, MayFollow, numbered, statement_of}
+use Rattle.pts_batch.specs.Evidence.{declared_entries, MayFollow, numbered, statement_of}
 use Rattle.pts_batch.specs.declared.loading.LoadFault.{LoadFault}
 use Rattle.pts_batch.specs.Calls.{RefusedAt, Stops, IsRefusedAt}
 use Rattle.pts_batch.proofs.Follow.{follow_more, goes_on, ends_at, passed_on}
@@ -42,10 +42,10 @@ pub none_left : (ls : List (ℕ × ModuleLine)) (n : ℕ) → n ≡ length ls �
 none_left [] n e h = refl
 none_left (x ∷ ls) n e h = absurd (omega (arith, e, h))
 
-pub entries_kept : (ds es : List Declaration) (d : Declaration) (G H : Globals) → G ≡ entries_of ds → H ≡ G ++ declared d ∷ [] → es ≡ ds ++ d ∷ [] → H ≡ entries_of es
-entries_kept ds es d G H g h e = h ∙ ap (λ F. F ++ declared d ∷ []) g ∙ sym (map-append declared ds (d ∷ [])) ∙ ap entries_of (sym e)
+pub entries_kept : (ds es : List Declaration) (d : Declaration) (G H : Globals) → G ≡ declared_entries ds → H ≡ G ++ declared d ∷ [] → es ≡ ds ++ d ∷ [] → H ≡ declared_entries es
+entries_kept ds es d G H g h e = h ∙ ap (λ F. F ++ declared d ∷ []) g ∙ sym (map-append declared ds (d ∷ [])) ∙ ap declared_entries (sym e)
 
-pub evidence_kept : (S : Specification) (ds es : List Declaration) (d : Declaration) (G : Globals) → G ≡ entries_of ds → es ≡ ds ++ d ∷ [] → MayFollow S [] ds → MayEnter S G d → MayFollow S [] es
+pub evidence_kept : (S : Specification) (ds es : List Declaration) (d : Declaration) (G : Globals) → G ≡ declared_entries ds → es ≡ ds ++ d ∷ [] → MayFollow S [] ds → MayEnter S G d → MayFollow S [] es
 evidence_kept S ds es d G g e h m = subst (MayFollow S []) (sym e) (follow_more S ds [] d h (subst (λ F. MayEnter S F d) g m))
 
 pub room_kept : (ls : List (ℕ × ModuleLine)) (x : ℕ × ModuleLine) (rest : List (ℕ × ModuleLine)) (s t : ℕ) → ls ≡ x ∷ rest → length ls ≤ s → s ≤ t + 1 → length rest ≤ t

@@ -6,9 +6,9 @@ use Rattle.pts_declare.specs.Declaring.{unread, taken, flawed}
 use Rattle.pts_declare.specs.declared.fault.DeclareFault.{DeclareFault}
 use Rattle.pts_declare.specs.declared.fault.DeclareFault.TheVariants.{Read, Taken, Flawed, Spent, Deep, Memory}
 use Rattle.pts_names.specs.Name.{Name}
-use Rattle.pts_module_file.specs.declared.fault.ModuleFault.{ModuleFault}
+use Rattle.pts_module_file.specs.declared.fault.FileFault.{FileFault}
 use Rattle.pts_declare.specs.Answered.{fault_text}
-use Rattle.pts_batch.specs.Batches.{Answer, refusal, bad_line, at_line}
+use Rattle.pts_batch.specs.Batches.{BatchAnswer, refusal, bad_line, at_line}
 use Rattle.pts_batch.specs.Loading.{Loaded, stopped, spent}
 use Rattle.pts_batch.specs.declared.loading.LoadFault.{LoadFault}
 use Rattle.pts_batch.specs.declared.loading.LoadFault.TheVariants as load
@@ -34,10 +34,10 @@ IsRefusedAt n e r = r ≡ load.Refused n e
 
 -- A module is answered so for what is wrong with its file, and for a statement that is refused. No answer tells of want of
 -- memory.
-abbrev pub AnswersBadFile : Name → ModuleFault → Answer → Type 0
-AnswersBadFile M (ModuleFault.BadFile n w) a = a ≡ refusal M (bad_line n w)
-AnswersBadFile M ModuleFault.Memory a = ⊥
+abbrev pub AnswersBadFile : Name → FileFault → BatchAnswer → Type 0
+AnswersBadFile M (FileFault.BadFile n w) a = a ≡ refusal M (bad_line n w)
+AnswersBadFile M FileFault.Memory a = ⊥
 
-abbrev pub AnswersFault : List (List ℕ) → Name → LoadFault → Answer → Type 0
+abbrev pub AnswersFault : List (List ℕ) → Name → LoadFault → BatchAnswer → Type 0
 AnswersFault sorts M (load.Refused n e) a = a ≡ refusal M (at_line n (fault_text sorts e))
 AnswersFault sorts M load.Memory a = ⊥

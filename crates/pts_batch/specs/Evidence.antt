@@ -11,8 +11,8 @@ use Rattle.pts_names.specs.Name.{is_short}
 use Rattle.pts_declare.specs.Answered.{MayEnter}
 
 -- The entries of declarations.
-abbrev pub entries_of : List Declaration → Globals
-entries_of ds = map declared ds
+abbrev pub declared_entries : List Declaration → Globals
+declared_entries ds = map declared ds
 
 -- Each declaration may stand behind the front and the entries of those before it.
 abbrev pub MayFollow : Specification → Globals → List Declaration → Type 0

@@ -4,15 +4,15 @@ use Rattle.pts_ctx.specs.System.{Specification}
 use Rattle.pts_ctx.specs.Front.{bare_front}
 use Rattle.pts_rules.specs.Derives.{Legal}
 use Rattle.pts_batch.specs.declared.world.Batch.{Batch}
-use Rattle.pts_batch.specs.Batches.{Answer}
-use Rattle.pts_batch.specs.Evidence.{entries_of, MayFollow}
+use Rattle.pts_batch.specs.Batches.{BatchAnswer}
+use Rattle.pts_batch.specs.Evidence.{declared_entries, MayFollow}
 
-abbrev pub answer_seen : Batch → Answer
+abbrev pub answer_seen : Batch → BatchAnswer
 answer_seen r = record { lines = r.lines; entries = r.context.entries; labels = r.context.labels; refused = r.refused }
 
 -- The entries are those of the declarations; each of these has a record that is valid over the entries before it and
 -- concludes it; and the entries are legal.
 pub record Evident (S : Specification) (r : Batch) : Type 0 where
-  pub entries : r.context.entries ≡ entries_of r.declarations
+  pub entries : r.context.entries ≡ declared_entries r.declarations
   pub evidence : MayFollow S [] r.declarations
   pub legal : Legal S (bare_front r.context.entries)

@@ -4,12 +4,12 @@ ghost use Rattle.std.specs.Prelude.{◌≡◌, true, ◌+◌, ◌++◌, ◌∷�
 ghost use Rattle.std.specs.Fmt.{decimal};
 ghost use Rattle.pts_ctx.specs.Front.{bare_front};
 ghost use Rattle.pts_rules.specs.Derives.{Legal};
-ghost use Rattle.pts_module_file.specs.File.{AllShort, file_of, module_of};
+ghost use Rattle.pts_module_file.specs.File.{AllShort, module_file_of, module_of};
 ghost use Rattle.pts_names.specs.Name.{is_short};
 ghost use Rattle.pts_declare.specs.Answered.{fault_text};
-ghost use Rattle.pts_batch.specs.Batches.{Answers, refusal, bad_line, at_line, unbuilt_line, why_text, with_entries};
+ghost use Rattle.pts_batch.specs.Batches.{BatchAnswers, refusal, bad_line, at_line, unbuilt_line, why_text, with_entries};
 ghost use Rattle.pts_batch.specs.Calls.{AnswersBadFile, AnswersFault};
-ghost use Rattle.pts_batch.specs.Evidence.{entries_of, MayFollow};
+ghost use Rattle.pts_batch.specs.Evidence.{declared_entries, MayFollow};
 ghost use Rattle.pts_batch.specs.Shown.{answer_seen, Evident};
 
 use crate::lines::entry_lines;
@@ -17,7 +17,7 @@ use crate::loading::{LoadFault, Loading, load};
 use crate::world::{Batch, World};
 use pts_ctx::{Context, ROOM, System};
 use pts_declare::{DeclareFault, fault_text, read_text};
-use pts_module_file::{Module, ModuleFault, ModuleLine, Why, read_module};
+use pts_module_file::{ModuleFile, FileFault, ModuleLine, FileWhy, read_module};
 use pts_names::{List, Name, Text};
 use pts_rules::Meter;
 use std::alloc::{AllocError, Global};
@@ -36,7 +36,7 @@ pub fn batch(
     bytes: &[u8],
     budget: u64,
 ) -> Result<Batch, AllocError>
-    ensures answer { IfOk result (λ r. Answers world.now.system name.now bytes.now budget (answer_seen r) r.units) }
+    ensures answer { IfOk result (λ r. BatchAnswers world.now.system name.now bytes.now budget (answer_seen r) r.units) }
     ensures evidence { IfOk result (λ r. Evident world.now.system r) }
 {
     match read_module(alloc, name, bytes) {
@@ -46,19 +46,19 @@ pub fn batch(
 }
 
 // A file that breaks the format.
-fn bad_file(alloc: Global, name: &Name, fault: &ModuleFault) -> Result<Batch, AllocError>
+fn bad_file(alloc: Global, name: &Name, fault: &FileFault) -> Result<Batch, AllocError>
     ensures answer { IfOk result (λ r. AnswersBadFile name.now fault.now (answer_seen r)) }
     ensures units { IfOk result (λ r. r.units ≡ 0) }
     ensures evidence { IfOk result (λ r. (r.declarations ≡ []) × (r.context.entries ≡ [])) }
 {
     match fault {
-        ModuleFault::BadFile(line, why) => bad_line(alloc, name, *line, why),
-        ModuleFault::Memory => Err(AllocError),
+        FileFault::BadFile(line, why) => bad_line(alloc, name, *line, why),
+        FileFault::Memory => Err(AllocError),
     }
 }
 
 // A line that breaks the format.
-fn bad_line(alloc: Global, name: &Name, line: usize, why: &Why) -> Result<Batch, AllocError>
+fn bad_line(alloc: Global, name: &Name, line: usize, why: &FileWhy) -> Result<Batch, AllocError>
     ensures answer { IfOk result (λ r. answer_seen r ≡ refusal name.now (bad_line line why.now)) }
     ensures units { IfOk result (λ r. r.units ≡ 0) }
     ensures evidence { IfOk result (λ r. (r.declarations ≡ []) × (r.context.entries ≡ [])) }
@@ -68,12 +68,12 @@ fn bad_line(alloc: Global, name: &Name, line: usize, why: &Why) -> Result<Batch,
     refusal(alloc, name, text.as_str(), 0)
 }
 
-fn why_text(alloc: Global, why: &Why) -> Result<String, AllocError>
+fn why_text(alloc: Global, why: &FileWhy) -> Result<String, AllocError>
     ensures { IfOk result (λ s. string_bytes s ≡ why_text why.now) }
 {
     match why {
-        Why::Form => String::from_str(alloc, "Form"),
-        Why::Read(fault) => read_text(alloc, fault),
+        FileWhy::Form => String::from_str(alloc, "Form"),
+        FileWhy::Read(fault) => read_text(alloc, fault),
     }
 }
 
@@ -83,13 +83,13 @@ fn batch_file(
     world: &World,
     name: &Name,
     bytes: &[u8],
-    file: Module,
+    file: ModuleFile,
     budget: u64,
 ) -> Result<Batch, AllocError>
-    requires read { module_of name.now bytes.now ≡ Ok (file_of file) }
+    requires read { module_of name.now bytes.now ≡ Ok (module_file_of file) }
     requires short { is_short name.now ≡ true }
-    requires names { AllShort (file_of file).stated }
-    ensures answer { IfOk result (λ r. Answers world.now.system name.now bytes.now budget (answer_seen r) r.units) }
+    requires names { AllShort (module_file_of file).stated }
+    ensures answer { IfOk result (λ r. BatchAnswers world.now.system name.now bytes.now budget (answer_seen r) r.units) }
     ensures evidence { IfOk result (λ r. Evident world.now.system r) }
 {
     match unbuilt_line(&file) {
@@ -99,8 +99,8 @@ fn batch_file(
 }
 
 // The first line of a kind that is not built.
-fn unbuilt_line(file: &Module) -> Option<usize>
-    ensures { result ≡ unbuilt_line (file_of file.now) }
+fn unbuilt_line(file: &ModuleFile) -> Option<usize>
+    ensures { result ≡ unbuilt_line (module_file_of file.now) }
 {
     if let Some(line) = file.uses.first() {
         return Some(line.0);
@@ -126,14 +126,14 @@ fn batch_lines(
     world: &World,
     name: &Name,
     bytes: &[u8],
-    file: Module,
+    file: ModuleFile,
     budget: u64,
 ) -> Result<Batch, AllocError>
-    requires read { module_of name.now bytes.now ≡ Ok (file_of file) }
+    requires read { module_of name.now bytes.now ≡ Ok (module_file_of file) }
     requires short { is_short name.now ≡ true }
-    requires names { AllShort (file_of file).stated }
-    requires built { unbuilt_line (file_of file) ≡ None }
-    ensures answer { IfOk result (λ r. Answers world.now.system name.now bytes.now budget (answer_seen r) r.units) }
+    requires names { AllShort (module_file_of file).stated }
+    requires built { unbuilt_line (module_file_of file) ≡ None }
+    ensures answer { IfOk result (λ r. BatchAnswers world.now.system name.now bytes.now budget (answer_seen r) r.units) }
     ensures evidence { IfOk result (λ r. Evident world.now.system r) }
 {
     let mut meter = Meter::new(budget);
@@ -145,10 +145,10 @@ fn batch_lines(
 }
 
 // The declarations alone.
-fn declarations_of(file: Module) -> Vec<(usize, ModuleLine)>
+fn declarations_of(file: ModuleFile) -> Vec<(usize, ModuleLine)>
     ensures { result ≡ file.declarations }
 {
-    let Module { declarations, .. } = file;
+    let ModuleFile { declarations, .. } = file;
     declarations
 }
 
@@ -160,12 +160,12 @@ fn finish(
     loading: Loading,
     units: u64,
 ) -> Result<Batch, AllocError>
-    requires entries { loading.context.entries ≡ entries_of loading.declarations.items }
+    requires entries { loading.context.entries ≡ declared_entries loading.declarations.items }
     requires labels { loading.context.labels ≡ (name.now, 0) ∷ [] }
     requires evidence { MayFollow system.now [] loading.declarations.items }
     ensures answer { IfOk result (λ r. answer_seen r ≡ with_entries system.now.sorts name.now loading.context.entries) }
     ensures units { IfOk result (λ r. r.units ≡ units) }
-    ensures entries { IfOk result (λ r. r.context.entries ≡ entries_of r.declarations) }
+    ensures entries { IfOk result (λ r. r.context.entries ≡ declared_entries r.declarations) }
     ensures evidence { IfOk result (λ r. MayFollow system.now [] r.declarations) }
 {
     if loading.context.len() > ROOM {

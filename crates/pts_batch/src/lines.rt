@@ -3,7 +3,7 @@
 ghost use Rattle.std.specs.Prelude.{◌≡◌, map, IfOk, string_bytes};
 ghost use Rattle.pts_check.specs.Entered.{declared};
 ghost use Rattle.pts_batch.specs.Batches.{entry_line};
-ghost use Rattle.pts_batch.specs.Evidence.{entries_of};
+ghost use Rattle.pts_batch.specs.Evidence.{declared_entries};
 
 use pts_ctx::System;
 use pts_names::Text;
@@ -17,7 +17,7 @@ pub(crate) fn entry_lines(
     system: &System,
     declarations: &[Declaration],
 ) -> Result<Vec<Text>, AllocError>
-    ensures { IfOk result (λ v. v.items ≡ map (entry_line system.now.sorts) (entries_of declarations.now)) }
+    ensures { IfOk result (λ v. v.items ≡ map (entry_line system.now.sorts) (declared_entries declarations.now)) }
 {
     let mut lines = Vec::new(alloc);
     for declaration in declarations {

@@ -13,7 +13,7 @@ ghost use Rattle.pts_declare.specs.Statements.{name_of};
 ghost use Rattle.pts_names.specs.Name.{is_short};
 ghost use Rattle.pts_declare.specs.Declaring.{Declares};
 ghost use Rattle.pts_declare.specs.Answered.{MayEnter, NotDeclared};
-ghost use Rattle.pts_batch.specs.Evidence.{entries_of, MayFollow, statement_of, numbered, AllDeclarable};
+ghost use Rattle.pts_batch.specs.Evidence.{declared_entries, MayFollow, statement_of, numbered, AllDeclarable};
 ghost use Rattle.pts_batch.specs.Loading.{Loads, entered};
 ghost use Rattle.pts_batch.specs.Calls.{Stops, IsRefusedAt};
 
@@ -67,7 +67,7 @@ pub fn load(
     requires names { AllDeclarable lines.items }
     ensures loaded { IfOk result (λ l. Loads system.now label.now [] (map numbered lines.items) (left meter.old) (entered l.context.entries) (left meter.new)) }
     ensures labels { IfOk result (λ l. l.context.labels ≡ (label.now, 0) ∷ []) }
-    ensures entries { IfOk result (λ l. l.context.entries ≡ entries_of l.declarations.items) }
+    ensures entries { IfOk result (λ l. l.context.entries ≡ declared_entries l.declarations.items) }
     ensures evidence { IfOk result (λ l. MayFollow system.now [] l.declarations.items) }
     ensures refused { IfErr result (λ e. Stops (Loads system.now label.now [] (map numbered lines.items)) (left meter.old) (left meter.new) e) }
     ensures later { Later meter.old meter.new }

@@ -2,22 +2,22 @@
 use Rattle.std.proofs.Common.{◌≡◌, ℕ, suc, ◌<◌, ◌≤◌, ◌+◌, ◌-◌, ◌*◌, ◌==◌, ◌&&◌, ◌||◌, not, Bool, true, false, if◌then◌else◌, List, [], ◌∷◌, ◌++◌, length, map, sym, ◌∙◌, ap, arith, append_assoc, append-nil, length-append, get_or, drop, drop-cons, nat_lt, ◌^◌}
 use Rattle.std.specs.Prelude.{Result, Ok, Err}
 use Rattle.std.specs.List.{list_all}
-use Rattle.pts_certificate.specs.declared.fault.Refusal.{Refusal}
-use Rattle.pts_certificate.specs.declared.fault.Refusal.TheVariants.{BadLine, BadNumber}
+use Rattle.pts_certificate.specs.declared.fault.LineFault.{LineFault}
+use Rattle.pts_certificate.specs.declared.fault.LineFault.TheVariants.{BadLine, BadNumber}
 use Rattle.pts_bytes.specs.Digits.{is_digits, value}
 use Rattle.pts_certificate.specs.Text.{is_number, numbers}
 
 -- What is known of the tests and of the number that a word writes plays no part.
 module _ (digits fits : List ℕ → Bool) (worth : List ℕ → ℕ) where
   -- The numbers of the fields behind those that were found, where `fit` says whether all of those are numbers.
-  abbrev pub behind : List ℕ → Bool → ℕ → List (List ℕ) → Result (List ℕ) Refusal
+  abbrev pub behind : List ℕ → Bool → ℕ → List (List ℕ) → Result (List ℕ) LineFault
   behind found fit count [] = if not (length found == count) then Err BadLine else if not fit then Err BadNumber else Ok found
   behind found fit count (word ∷ rest) =
       if (length found == count) || not (digits word) then Err BadLine
       else behind (found ++ (if fits word then worth word else 0) ∷ []) (fit && fits word) count rest
 
   -- The same in one step.
-  abbrev at_once : List ℕ → Bool → ℕ → List (List ℕ) → Result (List ℕ) Refusal
+  abbrev at_once : List ℕ → Bool → ℕ → List (List ℕ) → Result (List ℕ) LineFault
   at_once found fit count rest =
       if not ((length found + length rest == count) && list_all digits rest) then Err BadLine
       else if fit && list_all fits rest then Ok (found ++ map worth rest)

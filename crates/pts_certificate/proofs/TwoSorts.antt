@@ -1,7 +1,7 @@
 -- The two sorts of an axiom.
 use Rattle.std.proofs.Common.{◌≡◌, ◌∷◌, [], ◌∙◌, List, ℕ, Bool, true, false, Ok, Err, ap}
 use Rattle.std.specs.Prelude.{if◌then◌else◌, ◌&&◌}
-use Rattle.pts_certificate.specs.declared.fault.Refusal.TheVariants.{BadLine}
+use Rattle.pts_certificate.specs.declared.fault.LineFault.TheVariants.{BadLine}
 use Rattle.pts_certificate.specs.Rows.{alone, word_where, is_declared, two_sorts}
 
 abbrev pair : List ℕ → List ℕ → List ℕ × List ℕ

@@ -9,8 +9,8 @@ use Rattle.pts_record.specs.declared.shape.Form.TheVariants.{SortAt, ConstAt, Va
 use Rattle.pts_record.specs.declared.shape.Node.{Node}
 use Rattle.pts_certificate.specs.declared.fault.CertificateFault.{CertificateFault}
 use Rattle.pts_certificate.specs.declared.fault.CertificateFault.TheVariants.{Truncated, BadLine as BadLineAt, BadNumber as BadNumberAt, TooLarge as TooLargeAt, System as NoSystem, Memory as NoMemory}
-use Rattle.pts_certificate.specs.declared.fault.Refusal.{Refusal}
-use Rattle.pts_certificate.specs.declared.fault.Refusal.TheVariants.{BadLine, BadNumber, TooLarge, System, Memory}
+use Rattle.pts_certificate.specs.declared.fault.LineFault.{LineFault}
+use Rattle.pts_certificate.specs.declared.fault.LineFault.TheVariants.{BadLine, BadNumber, TooLarge, System, Memory}
 use Rattle.pts_certificate.specs.Text.{lines, words}
 use Rattle.pts_certificate.specs.Rows.{and_then, alone, on_words, sorts_row, axiom_row, rule_row, name_row, term_row, node_row, with_term, with_node}
 
@@ -45,14 +45,14 @@ pub data State : Type 0 where
   at_end : (whole : Written) → State
 
 -- The first line is this one.
-abbrev pub first_line : List ℕ → Result State Refusal
+abbrev pub first_line : List ℕ → Result State LineFault
 first_line line = if same_name line (codes "yarrow-certificate 1") then Ok at_sorts else Err BadLine
 
 abbrev pub opened : Written → Bool → Name → State
 opened front defines x = inside front (record { name = x; defines = defines }) (record { shapes = []; nodes = [] })
 
 -- Between declarations stand `assume NAME`, `define NAME` and `end`.
-unfoldable pub between_row : Written → List ℕ → List (List ℕ) → Result State Refusal
+unfoldable pub between_row : Written → List ℕ → List (List ℕ) → Result State LineFault
 between_row front word fields =
     if same_name word (codes "assume") then and_then (name_row fields) (λ x. Ok (opened front false x))
     else if same_name word (codes "define") then and_then (name_row fields) (λ x. Ok (opened front true x))
@@ -60,17 +60,17 @@ between_row front word fields =
     else Err BadLine
 
 -- The first line behind the rules: that the lists are no system comes before all that may be wrong with it.
-abbrev pub system_row : Spelled → Result Specification Refusal
+abbrev pub system_row : Spelled → Result Specification LineFault
 system_row w = elim (system_fault w) [ Some e ↦ Err (System e) | None ↦ Ok (specification_of w) ]
 
-abbrev pub behind_rules : Spelled → List ℕ → List (List ℕ) → Result State Refusal
+abbrev pub behind_rules : Spelled → List ℕ → List (List ℕ) → Result State LineFault
 behind_rules w word fields = and_then (system_row w) (λ S. between_row (record { system = S; declarations = [] }) word fields)
 
-abbrev pub rules_row : Spelled → List ℕ → List (List ℕ) → Result State Refusal
+abbrev pub rules_row : Spelled → List ℕ → List (List ℕ) → Result State LineFault
 rules_row w word fields =
     if same_name word (codes "rule") then and_then (rule_row w fields) (λ v. Ok (at_rules v)) else behind_rules w word fields
 
-abbrev pub axioms_row : Spelled → List ℕ → List (List ℕ) → Result State Refusal
+abbrev pub axioms_row : Spelled → List ℕ → List (List ℕ) → Result State LineFault
 axioms_row w word fields =
     if same_name word (codes "axiom") then and_then (axiom_row w fields) (λ v. Ok (at_axioms v)) else rules_row w word fields
 
@@ -100,11 +100,11 @@ declared h r n =
 abbrev pub last_node : Tables → Option Node
 last_node r = slice_get r.nodes (length r.nodes - 1)
 
-unfoldable pub concluded : Heading → Tables → Result Declared Refusal
+unfoldable pub concluded : Heading → Tables → Result Declared LineFault
 concluded h r =
     elim (last_node r) [ Some n ↦ if judges n.form then Ok (declared h r n) else Err BadLine | None ↦ Err BadLine ]
 
-abbrev pub qed_row : Heading → Tables → List (List ℕ) → Result Declared Refusal
+abbrev pub qed_row : Heading → Tables → List (List ℕ) → Result Declared LineFault
 qed_row h r [] = concluded h r
 qed_row h r (word ∷ fields) = Err BadLine
 
@@ -112,7 +112,7 @@ abbrev pub with_declaration : Written → Declared → Written
 with_declaration front d = record { system = front.system; declarations = front.declarations ++ d ∷ [] }
 
 -- Inside a declaration stand lines of terms and of nodes, and `qed`.
-unfoldable pub inside_row : Written → Heading → Tables → List ℕ → List (List ℕ) → Result State Refusal
+unfoldable pub inside_row : Written → Heading → Tables → List ℕ → List (List ℕ) → Result State LineFault
 inside_row front h r word fields =
     if same_name word (codes "t") then and_then (and_then (term_row front.system fields) (with_term r)) (λ q. Ok (inside front h q))
     else if same_name word (codes "n") then and_then (and_then (node_row fields) (with_node r)) (λ q. Ok (inside front h q))
@@ -120,7 +120,7 @@ inside_row front h r word fields =
     else Err BadLine
 
 -- What may come behind a line, or why the line is refused.
-abbrev pub step : State → List ℕ → Result State Refusal
+abbrev pub step : State → List ℕ → Result State LineFault
 step at_start line = first_line line
 step at_sorts line = and_then (on_words sorts_row (words line)) (λ w. Ok (at_axioms w))
 step (at_axioms w) line = on_words (axioms_row w) (words line)
@@ -130,7 +130,7 @@ step (inside front h r) line = on_words (inside_row front h r) (words line)
 step (at_end whole) line = Err BadLine
 
 -- The refusal of line n.
-abbrev pub at_line : ℕ → Refusal → CertificateFault
+abbrev pub at_line : ℕ → LineFault → CertificateFault
 at_line n BadLine = BadLineAt n
 at_line n BadNumber = BadNumberAt n
 at_line n TooLarge = TooLargeAt n

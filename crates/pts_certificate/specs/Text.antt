@@ -4,8 +4,8 @@ use Rattle.std.specs.List.{list_all}
 use Rattle.pts_names.specs.Name.{same_name}
 use Rattle.pts_bytes.specs.Pieces.{pieces, lines_among}
 use Rattle.pts_bytes.specs.Digits.{is_digits, is_number_up_to, value}
-use Rattle.pts_certificate.specs.declared.fault.Refusal.{Refusal}
-use Rattle.pts_certificate.specs.declared.fault.Refusal.TheVariants.{BadLine, BadNumber}
+use Rattle.pts_certificate.specs.declared.fault.LineFault.{LineFault}
+use Rattle.pts_certificate.specs.declared.fault.LineFault.TheVariants.{BadLine, BadNumber}
 
 -- What comes after the last line feed is a line only where it is `end`, exactly.
 abbrev pub only_end : List ℕ → List (List ℕ)
@@ -25,7 +25,7 @@ is_number digits = is_number_up_to 4294967295 digits
 
 -- The numbers of a line's fields, which must be as many as `count`. Whether they are digits is asked of all fields
 -- before the numbers are looked at.
-unfoldable pub numbers : ℕ → List (List ℕ) → Result (List ℕ) Refusal
+unfoldable pub numbers : ℕ → List (List ℕ) → Result (List ℕ) LineFault
 numbers count fields =
     if not ((length fields == count) && list_all is_digits fields) then Err BadLine
     else if list_all is_number fields then Ok (map value fields)

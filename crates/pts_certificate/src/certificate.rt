@@ -2,7 +2,7 @@ ghost use Rattle.std.specs.Prelude.{◌≡◌, Ok, Err, IfOk, IfErr, MatchResult
 ghost use Rattle.pts_certificate.specs.Certificate.{certificate_of, at_line, ended, UnlessMemory};
 ghost use Rattle.pts_certificate.specs.Seen.{written_of, state_of};
 
-use crate::fault::{CertificateFault, Refusal};
+use crate::fault::{CertificateFault, LineFault};
 use crate::split::split_line;
 use crate::state::{Front, State, step};
 use pts_ctx::System;
@@ -61,14 +61,14 @@ fn whole(state: State) -> Result<Certificate, CertificateFault>
     }
 }
 
-fn at_line(number: usize, refusal: Refusal) -> CertificateFault
+fn at_line(number: usize, refusal: LineFault) -> CertificateFault
     ensures { result ≡ at_line number refusal }
 {
     match refusal {
-        Refusal::BadLine => CertificateFault::BadLine(number),
-        Refusal::BadNumber => CertificateFault::BadNumber(number),
-        Refusal::TooLarge => CertificateFault::TooLarge(number),
-        Refusal::System(fault) => CertificateFault::System(fault),
-        Refusal::Memory => CertificateFault::Memory,
+        LineFault::BadLine => CertificateFault::BadLine(number),
+        LineFault::BadNumber => CertificateFault::BadNumber(number),
+        LineFault::TooLarge => CertificateFault::TooLarge(number),
+        LineFault::System(fault) => CertificateFault::System(fault),
+        LineFault::Memory => CertificateFault::Memory,
     }
 }

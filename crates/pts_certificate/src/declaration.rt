@@ -6,12 +6,12 @@ ghost use Rattle.pts_certificate.specs.Certificate.{judges};
 ghost use Rattle.pts_certificate.specs.Certificate as format;
 ghost use Rattle.pts_certificate.specs.Seen.{declared_of, heading_of};
 
-use crate::fault::Refusal;
+use crate::fault::LineFault;
 use crate::state::Heading;
 use pts_record::{Declaration, Form, Node, Record, RecordFault, Shape};
 
 /// The record with one more term.
-pub(crate) fn with_term(mut proof: Record, shape: Shape) -> Result<Record, Refusal>
+pub(crate) fn with_term(mut proof: Record, shape: Shape) -> Result<Record, LineFault>
     ensures { Answers result (rows.with_term proof shape) }
 {
     match proof.add_term(shape) {
@@ -21,7 +21,7 @@ pub(crate) fn with_term(mut proof: Record, shape: Shape) -> Result<Record, Refus
 }
 
 /// The record with one more node.
-pub(crate) fn with_node(mut proof: Record, node: Node) -> Result<Record, Refusal>
+pub(crate) fn with_node(mut proof: Record, node: Node) -> Result<Record, LineFault>
     ensures { Answers result (rows.with_node proof node) }
 {
     match proof.add_node(node) {
@@ -30,26 +30,26 @@ pub(crate) fn with_node(mut proof: Record, node: Node) -> Result<Record, Refusal
     }
 }
 
-fn refusal_of(fault: RecordFault) -> Refusal
+fn refusal_of(fault: RecordFault) -> LineFault
     ensures { result ≡ rows.refusal_of fault }
 {
     match fault {
-        RecordFault::Link(_) => Refusal::BadNumber,
-        RecordFault::TooLarge => Refusal::TooLarge,
-        RecordFault::Memory => Refusal::Memory,
+        RecordFault::Link(_) => LineFault::BadNumber,
+        RecordFault::TooLarge => LineFault::TooLarge,
+        RecordFault::Memory => LineFault::Memory,
     }
 }
 
 /// What the last node of a record declares.
 #[tactic(auto, unfolding(crate::specs::Certificate::concluded))]
-pub(crate) fn concluded(heading: Heading, proof: Record) -> Result<Declaration, Refusal>
+pub(crate) fn concluded(heading: Heading, proof: Record) -> Result<Declaration, LineFault>
     ensures { AnswersAs declared_of result (format.concluded (heading_of heading) proof) }
 {
     let Some(last) = last_node(&proof) else {
-        return Err(Refusal::BadLine);
+        return Err(LineFault::BadLine);
     };
     if !judges(last.form) {
-        return Err(Refusal::BadLine);
+        return Err(LineFault::BadLine);
     }
     declared(heading, proof, last)
 }
@@ -65,7 +65,7 @@ fn last_node(proof: &Record) -> Option<Node>
     Some(proof.node(count - 1))
 }
 
-fn declared(heading: Heading, mut proof: Record, last: Node) -> Result<Declaration, Refusal>
+fn declared(heading: Heading, mut proof: Record, last: Node) -> Result<Declaration, LineFault>
     requires subject { last.subject < length proof.shapes }
     requires claim { last.claim < length proof.shapes }
     ensures { AnswersAs declared_of result (Ok (format.declared (heading_of heading) proof last)) }

@@ -22,7 +22,7 @@ pub enum CertificateFault {
 
 /// Why a line is refused.
 #[derive(Debug, Drop)]
-pub(crate) enum Refusal {
+pub(crate) enum LineFault {
     /// It has no form that may stand in its place.
     BadLine,
     /// A number has a leading zero, is 2^32 or more, or leads to no earlier line.
@@ -35,22 +35,22 @@ pub(crate) enum Refusal {
     Memory,
 }
 
-impl From<AllocError> for Refusal {
-    ghost use Rattle.pts_certificate.specs.declared.fault.Refusal.{Refusal};
+impl From<AllocError> for LineFault {
+    ghost use Rattle.pts_certificate.specs.declared.fault.LineFault.{LineFault};
 
-    ghost from_gives = { λ _ refusal. refusal ≡ Refusal.Memory };
+    ghost from_gives = { λ _ refusal. refusal ≡ LineFault.Memory };
 
-    fn from(_: AllocError) -> Refusal {
-        Refusal::Memory
+    fn from(_: AllocError) -> LineFault {
+        LineFault::Memory
     }
 }
 
-impl<T: Drop> From<AllocFailed<T>> for Refusal {
-    ghost use Rattle.pts_certificate.specs.declared.fault.Refusal.{Refusal};
+impl<T: Drop> From<AllocFailed<T>> for LineFault {
+    ghost use Rattle.pts_certificate.specs.declared.fault.LineFault.{LineFault};
 
-    ghost from_gives = { λ _ refusal. refusal ≡ Refusal.Memory };
+    ghost from_gives = { λ _ refusal. refusal ≡ LineFault.Memory };
 
-    fn from(_: AllocFailed<T>) -> Refusal {
-        Refusal::Memory
+    fn from(_: AllocFailed<T>) -> LineFault {
+        LineFault::Memory
     }
 }

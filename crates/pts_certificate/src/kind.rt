@@ -1,6 +1,6 @@
 /// The form of a term's line.
 #[derive(Clone, Copy, Debug, PartialEq, Eq)]
-pub(crate) enum Kind {
+pub(crate) enum RowKind {
     SortTerm,
     ConstTerm,
     VarTerm,

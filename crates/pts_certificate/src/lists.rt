@@ -3,7 +3,7 @@ ghost use Rattle.pts_certificate.specs.Calls.{Answers, AnswersAs};
 ghost use Rattle.pts_certificate.specs.Rows as format;
 ghost use Rattle.pts_certificate.specs.Seen.{spelled};
 
-use crate::fault::Refusal;
+use crate::fault::LineFault;
 use crate::sorts::Sorts;
 use crate::split::Words;
 use crate::word::spelling_of;
@@ -20,11 +20,11 @@ pub(crate) struct Lists {
 }
 
 /// The line `sorts S1 S2 ..`.
-pub(crate) fn sorts_row(alloc: Global, word: &[u8], fields: Words) -> Result<Lists, Refusal>
+pub(crate) fn sorts_row(alloc: Global, word: &[u8], fields: Words) -> Result<Lists, LineFault>
     ensures { AnswersAs spelled result (format.sorts_row word.now fields.entry) }
 {
     if !is_text(word, "sorts") {
-        return Err(Refusal::BadLine);
+        return Err(LineFault::BadLine);
     }
     Ok(Lists {
         sorts: spellings(alloc, fields)?,
@@ -34,7 +34,7 @@ pub(crate) fn sorts_row(alloc: Global, word: &[u8], fields: Words) -> Result<Lis
 }
 
 /// The line `axiom S1 S2`, by its fields.
-pub(crate) fn axiom_row(alloc: Global, mut lists: Lists, fields: Words) -> Result<Lists, Refusal>
+pub(crate) fn axiom_row(alloc: Global, mut lists: Lists, fields: Words) -> Result<Lists, LineFault>
     ensures { AnswersAs spelled result (format.axiom_row (spelled lists) fields.entry) }
 {
     let axiom = lists.sorts.two(alloc, fields)?;
@@ -43,7 +43,7 @@ pub(crate) fn axiom_row(alloc: Global, mut lists: Lists, fields: Words) -> Resul
 }
 
 /// The line `rule S1 S2 S3`, by its fields.
-pub(crate) fn rule_row(alloc: Global, mut lists: Lists, fields: Words) -> Result<Lists, Refusal>
+pub(crate) fn rule_row(alloc: Global, mut lists: Lists, fields: Words) -> Result<Lists, LineFault>
     ensures { AnswersAs spelled result (format.rule_row (spelled lists) fields.entry) }
 {
     let rule = lists.sorts.three(alloc, fields)?;
@@ -52,7 +52,7 @@ pub(crate) fn rule_row(alloc: Global, mut lists: Lists, fields: Words) -> Result
 }
 
 /// The spellings that the words are.
-fn spellings(alloc: Global, mut words: Words) -> Result<Sorts, Refusal>
+fn spellings(alloc: Global, mut words: Words) -> Result<Sorts, LineFault>
     ensures { Answers result (format.spellings words.entry) }
 {
     let mut sorts = Sorts::none(alloc);

@@ -2,7 +2,7 @@ ghost use Rattle.std.specs.Prelude.{◌≡◌, ◌≤◌, IfSome};
 ghost use Rattle.pts_certificate.specs.Rows.{node_rows, node_with};
 ghost use Rattle.pts_certificate.specs.Rows as format;
 
-use crate::fault::Refusal;
+use crate::fault::LineFault;
 use crate::number::{Numbers, numbers_of};
 use crate::split::Words;
 use crate::table::row_of;
@@ -34,7 +34,7 @@ const NODE_ROWS: [(&str, (Form, usize)); 20] = [
 
 /// The node that is written behind `n`.
 #[tactic(auto, unfolding(crate::specs::Rows::node_row))]
-pub(crate) fn node_row(mut fields: Words) -> Result<Node, Refusal>
+pub(crate) fn node_row(mut fields: Words) -> Result<Node, LineFault>
     ensures { result ≡ format.node_row fields.entry }
 {
     match form_of(fields.field()?) {
@@ -42,7 +42,7 @@ pub(crate) fn node_row(mut fields: Words) -> Result<Node, Refusal>
             let numbers = numbers_of(fields, count)?;
             Ok(node_with(form, &numbers))
         }
-        None => Err(Refusal::BadLine),
+        None => Err(LineFault::BadLine),
     }
 }
 

@@ -4,7 +4,7 @@ ghost use Rattle.pts_bytes.specs.Digits.{is_digits, value};
 ghost use Rattle.pts_certificate.specs.Text.{is_number};
 ghost use Rattle.pts_certificate.specs.Text as fields;
 
-use crate::fault::Refusal;
+use crate::fault::LineFault;
 use crate::split::Words;
 use pts_bytes::{is_digits, number_up_to};
 use std::marker::Model;
@@ -77,7 +77,7 @@ impl Numbers {
 
 /// The numbers of the fields of a line, which must be as many as `count`.
 #[tactic(auto, using(crate::proofs::Numbers::all_behind))]
-pub(crate) fn numbers_of(words: Words, count: usize) -> Result<Numbers, Refusal>
+pub(crate) fn numbers_of(words: Words, count: usize) -> Result<Numbers, LineFault>
     requires { count ≤ 6 }
     ensures { result ≡ fields.numbers count words.entry }
 {
@@ -86,17 +86,17 @@ pub(crate) fn numbers_of(words: Words, count: usize) -> Result<Numbers, Refusal>
     let mut fit = true;
     while let Some(word) = words.next() {
         if found.len() == count || !is_digits(word) {
-            return Err(Refusal::BadLine);
+            return Err(LineFault::BadLine);
         }
         let number = number_of(word);
         fit = fit && number.is_some();
         found.push(number.unwrap_or(0));
     }
     if found.len() != count {
-        return Err(Refusal::BadLine);
+        return Err(LineFault::BadLine);
     }
     if !fit {
-        return Err(Refusal::BadNumber);
+        return Err(LineFault::BadNumber);
     }
     Ok(found)
 }

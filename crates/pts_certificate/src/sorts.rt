@@ -4,7 +4,7 @@ ghost use Rattle.pts_names.specs.Name.{same_name};
 ghost use Rattle.pts_certificate.specs.Calls.{Answers};
 ghost use Rattle.pts_certificate.specs.Rows.{word_where, is_declared, two_sorts, three_sorts};
 
-use crate::fault::Refusal;
+use crate::fault::LineFault;
 use crate::split::Words;
 use crate::word::spelling_of;
 use indexmap::IndexSet;
@@ -68,12 +68,12 @@ impl Sorts {
     }
 
     /// The spelling that a word is, where it stands among them.
-    fn one(&self, alloc: Global, word: &[u8]) -> Result<SortName, Refusal>
+    fn one(&self, alloc: Global, word: &[u8]) -> Result<SortName, LineFault>
         ensures { Answers result (word_where (is_declared self.now) word.now) }
     {
         let spelling = spelling_of(alloc, word)?;
         if !self.has(&spelling) {
-            return Err(Refusal::BadLine);
+            return Err(LineFault::BadLine);
         }
         Ok(spelling)
     }
@@ -83,7 +83,7 @@ impl Sorts {
         &self,
         alloc: Global,
         mut fields: Words,
-    ) -> Result<(SortName, SortName), Refusal>
+    ) -> Result<(SortName, SortName), LineFault>
         ensures { Answers result (two_sorts self.now fields.entry) }
     {
         let first = fields.field()?;
@@ -97,7 +97,7 @@ impl Sorts {
         &self,
         alloc: Global,
         mut fields: Words,
-    ) -> Result<(SortName, SortName, SortName), Refusal>
+    ) -> Result<(SortName, SortName, SortName), LineFault>
         ensures { Answers result (three_sorts self.now fields.entry) }
     {
         let first = self.one(alloc, fields.field()?)?;

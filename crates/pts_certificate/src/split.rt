@@ -4,7 +4,7 @@ ghost use Rattle.pts_bytes.specs.Pieces.{pieces};
 ghost use Rattle.pts_certificate.specs.Text.{lines, words, only_end};
 ghost use Rattle.pts_certificate.specs.Rows.{alone};
 
-use crate::fault::Refusal;
+use crate::fault::LineFault;
 use pts_bytes::{is_text, split_at, whole_line};
 use std::marker::Model;
 
@@ -56,12 +56,12 @@ impl<'a> Words<'a> {
     /// # Errors
     ///
     /// `BadLine`.
-    pub(crate) fn field(&mut self) -> Result<&'a [u8], Refusal>
-        ensures { MatchResult result (λ word. self.old ≡ word.now ∷ self.new) (λ e. (e ≡ Refusal.BadLine) × (self.old ≡ [])) }
+    pub(crate) fn field(&mut self) -> Result<&'a [u8], LineFault>
+        ensures { MatchResult result (λ word. self.old ≡ word.now ∷ self.new) (λ e. (e ≡ LineFault.BadLine) × (self.old ≡ [])) }
     {
         match self.next() {
             Some(word) => Ok(word),
-            None => Err(Refusal::BadLine),
+            None => Err(LineFault::BadLine),
         }
     }
 
@@ -70,11 +70,11 @@ impl<'a> Words<'a> {
     /// # Errors
     ///
     /// `BadLine`.
-    pub(crate) fn end(mut self) -> Result<(), Refusal>
+    pub(crate) fn end(mut self) -> Result<(), LineFault>
         ensures { result ≡ alone self.entry tt }
     {
         match self.next() {
-            Some(_) => Err(Refusal::BadLine),
+            Some(_) => Err(LineFault::BadLine),
             None => Ok(()),
         }
     }

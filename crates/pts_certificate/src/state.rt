@@ -4,7 +4,7 @@ ghost use Rattle.pts_certificate.specs.Certificate as format;
 ghost use Rattle.pts_certificate.specs.Seen.{spelled, declared_of, front_of, heading_of, state_of};
 
 use crate::declaration::{concluded, with_node, with_term};
-use crate::fault::Refusal;
+use crate::fault::LineFault;
 use crate::lists::{Lists, axiom_row, rule_row, sorts_row};
 use crate::node::node_row;
 use crate::split::Words;
@@ -49,7 +49,7 @@ pub(crate) enum State {
 }
 
 /// What may come behind a line.
-pub(crate) fn step(alloc: Global, state: State, line: &[u8]) -> Result<State, Refusal>
+pub(crate) fn step(alloc: Global, state: State, line: &[u8]) -> Result<State, LineFault>
     ensures { AnswersAs state_of result (format.step (state_of state) line.now) }
 {
     match state {
@@ -59,21 +59,21 @@ pub(crate) fn step(alloc: Global, state: State, line: &[u8]) -> Result<State, Re
         State::Rules(lists) => rules_line(alloc, lists, line),
         State::Between(front) => between_line(alloc, front, line),
         State::Inside(front, heading, proof) => inside_line(alloc, front, heading, proof, line),
-        State::End(_) => Err(Refusal::BadLine),
+        State::End(_) => Err(LineFault::BadLine),
     }
 }
 
-fn first_line(line: &[u8]) -> Result<State, Refusal>
+fn first_line(line: &[u8]) -> Result<State, LineFault>
     ensures { AnswersAs state_of result (format.first_line line.now) }
 {
     if is_text(line, "yarrow-certificate 1") {
         Ok(State::Sorts)
     } else {
-        Err(Refusal::BadLine)
+        Err(LineFault::BadLine)
     }
 }
 
-fn sorts_line(alloc: Global, line: &[u8]) -> Result<State, Refusal>
+fn sorts_line(alloc: Global, line: &[u8]) -> Result<State, LineFault>
     ensures { AnswersAs state_of result (format.step format.at_sorts line.now) }
 {
     let mut fields = Words::of(line);
@@ -81,7 +81,7 @@ fn sorts_line(alloc: Global, line: &[u8]) -> Result<State, Refusal>
     Ok(State::Axioms(sorts_row(alloc, word, fields)?))
 }
 
-fn axioms_line(alloc: Global, lists: Lists, line: &[u8]) -> Result<State, Refusal>
+fn axioms_line(alloc: Global, lists: Lists, line: &[u8]) -> Result<State, LineFault>
     ensures { AnswersAs state_of result (format.step (format.at_axioms (spelled lists)) line.now) }
 {
     let mut fields = Words::of(line);
@@ -92,7 +92,7 @@ fn axioms_line(alloc: Global, lists: Lists, line: &[u8]) -> Result<State, Refusa
     rules_row(alloc, lists, word, fields)
 }
 
-fn rules_line(alloc: Global, lists: Lists, line: &[u8]) -> Result<State, Refusal>
+fn rules_line(alloc: Global, lists: Lists, line: &[u8]) -> Result<State, LineFault>
     ensures { AnswersAs state_of result (format.step (format.at_rules (spelled lists)) line.now) }
 {
     let mut fields = Words::of(line);
@@ -100,7 +100,7 @@ fn rules_line(alloc: Global, lists: Lists, line: &[u8]) -> Result<State, Refusal
     rules_row(alloc, lists, word, fields)
 }
 
-fn between_line(alloc: Global, front: Front, line: &[u8]) -> Result<State, Refusal>
+fn between_line(alloc: Global, front: Front, line: &[u8]) -> Result<State, LineFault>
     ensures { AnswersAs state_of result (format.step (format.between (front_of front)) line.now) }
 {
     let mut fields = Words::of(line);
@@ -114,7 +114,7 @@ fn inside_line(
     heading: Heading,
     proof: Record,
     line: &[u8],
-) -> Result<State, Refusal>
+) -> Result<State, LineFault>
     ensures { AnswersAs state_of result (format.step (format.inside (front_of front) (heading_of heading) proof) line.now) }
 {
     let mut fields = Words::of(line);
@@ -122,7 +122,7 @@ fn inside_line(
     inside_row(alloc, front, heading, proof, word, fields)
 }
 
-fn rules_row(alloc: Global, lists: Lists, word: &[u8], fields: Words) -> Result<State, Refusal>
+fn rules_row(alloc: Global, lists: Lists, word: &[u8], fields: Words) -> Result<State, LineFault>
     ensures { AnswersAs state_of result (format.rules_row (spelled lists) word.now fields.entry) }
 {
     if is_text(word, "rule") {
@@ -132,7 +132,7 @@ fn rules_row(alloc: Global, lists: Lists, word: &[u8], fields: Words) -> Result<
 }
 
 /// The first line behind the rules.
-fn behind_rules(alloc: Global, lists: Lists, word: &[u8], fields: Words) -> Result<State, Refusal>
+fn behind_rules(alloc: Global, lists: Lists, word: &[u8], fields: Words) -> Result<State, LineFault>
     ensures { AnswersAs state_of result (format.behind_rules (spelled lists) word.now fields.entry) }
 {
     let front = Front {
@@ -142,7 +142,7 @@ fn behind_rules(alloc: Global, lists: Lists, word: &[u8], fields: Words) -> Resu
     between_row(alloc, front, word, fields)
 }
 
-fn system_of(alloc: Global, lists: Lists) -> Result<System, Refusal>
+fn system_of(alloc: Global, lists: Lists) -> Result<System, LineFault>
     ensures { Answers result (format.system_row (spelled lists)) }
 {
     let Lists {
@@ -152,14 +152,14 @@ fn system_of(alloc: Global, lists: Lists) -> Result<System, Refusal>
     } = lists;
     match System::new(alloc, sorts.into_vec(), axioms, rules) {
         Ok(system) => Ok(system),
-        Err(SystemFault::Memory) => Err(Refusal::Memory),
-        Err(fault) => Err(Refusal::System(fault)),
+        Err(SystemFault::Memory) => Err(LineFault::Memory),
+        Err(fault) => Err(LineFault::System(fault)),
     }
 }
 
 /// A line between declarations.
 #[tactic(auto, unfolding(crate::specs::Certificate::between_row))]
-fn between_row(alloc: Global, front: Front, word: &[u8], fields: Words) -> Result<State, Refusal>
+fn between_row(alloc: Global, front: Front, word: &[u8], fields: Words) -> Result<State, LineFault>
     ensures { AnswersAs state_of result (format.between_row (front_of front) word.now fields.entry) }
 {
     if is_text(word, "assume") {
@@ -174,7 +174,7 @@ fn between_row(alloc: Global, front: Front, word: &[u8], fields: Words) -> Resul
         fields.end()?;
         return Ok(State::End(front));
     }
-    Err(Refusal::BadLine)
+    Err(LineFault::BadLine)
 }
 
 fn opened(alloc: Global, front: Front, name: Name, defines: bool) -> State
@@ -192,7 +192,7 @@ fn inside_row(
     proof: Record,
     word: &[u8],
     fields: Words,
-) -> Result<State, Refusal>
+) -> Result<State, LineFault>
     ensures { AnswersAs state_of result (format.inside_row (front_of front) (heading_of heading) proof word.now fields.entry) }
 {
     if is_text(word, "t") {
@@ -210,10 +210,10 @@ fn inside_row(
         let declaration = concluded(heading, proof)?;
         return Ok(State::Between(with_declaration(front, declaration)?));
     }
-    Err(Refusal::BadLine)
+    Err(LineFault::BadLine)
 }
 
-fn with_declaration(mut front: Front, declaration: Declaration) -> Result<Front, Refusal>
+fn with_declaration(mut front: Front, declaration: Declaration) -> Result<Front, LineFault>
     ensures { AnswersAs front_of result (Ok (format.with_declaration (front_of front) (declared_of declaration))) }
 {
     front.declarations.push(declaration)?;

@@ -10,7 +10,7 @@ use Rattle.pts_record.specs.declared.shape.Form.{Form}
 use Rattle.pts_record.specs.declared.shape.Form.TheVariants.{Empty, Assume, Define, Bare as BareForm, SortAt, ConstAt, VarAt, Thin, PiAt, LamAt, AppAt, LetSort, LetAt, Conv, Same, Left, Right, CongApp, CongLam, CongPi}
 use Rattle.pts_record.specs.declared.shape.Node.{Node}
 use Rattle.pts_record.specs.Table.{Tables, bare_trees, AllBelow, contexts_as, premises_as, node_links}
-use Rattle.pts_record.specs.Said.{line_of, lines_of, nothing, look, say, said_behind, told}
+use Rattle.pts_record.specs.Said.{row_of_node, rows_of, nothing, look, say, said_behind, told}
 use Rattle.pts_record.proofs.Values.{values_push}
 use Rattle.pts_record.proofs.Told.{told_take, length_before, line_is, lines_long}
 use Rattle.pts_rules.specs.declared.why.Why.{Why}
@@ -45,7 +45,7 @@ fault_by_links S G CongPi l c p q r c' p' q' r' n x y z w b e g h k = let c1 = e
 
 -- The first fault of the lines from i on, over what was said before them.
 unfoldable pub rest : Specification → Front → Tables → ℕ → Option (ℕ × Why)
-rest S G r i = first_fault_behind S G (said_behind [] (take i (lines_of r))) (drop i (lines_of r))
+rest S G r i = first_fault_behind S G (said_behind [] (take i (rows_of r))) (drop i (rows_of r))
 
 pub rest_all : (S : Specification) (G : Front) (r : Tables) → rest S G r 0 ≡ first_fault S G r
 unfolding rest first_fault
@@ -59,21 +59,21 @@ drop_all (x ∷ xs) (suc i) h = drop_all xs i (omega (arith, h))
 
 pub rest_none : (S : Specification) (G : Front) (r : Tables) (i : ℕ) → length r.nodes ≤ i → rest S G r i ≡ None
 unfolding rest
-rest_none S G r i h = ap (first_fault_behind S G (said_behind [] (take i (lines_of r)))) (drop_all (lines_of r) i (omega (arith, h, lines_long r)))
+rest_none S G r i h = ap (first_fault_behind S G (said_behind [] (take i (rows_of r)))) (drop_all (rows_of r) i (omega (arith, h, lines_long r)))
 
 -- The fault of a node, by what its links say.
 abbrev pub fault_of : Specification → Front → Tables → Node → Option Why
-fault_of S G r n = form_fault S G n.form (line_of (bare_trees r.shapes) n) (told r n.ctx) (told r n.first) (told r n.second) (told r n.third)
+fault_of S G r n = form_fault S G n.form (row_of_node (bare_trees r.shapes) n) (told r n.ctx) (told r n.first) (told r n.second) (told r n.third)
 
 rest_by : (S : Specification) (G : Front) (r : Tables) (k : ℕ) (n : Node) → k < length r.nodes → get_or r.nodes k n ≡ n → AllBelow k (node_links n) → rest S G r k ≡ or_later k (fault_of S G r n) (rest S G r (suc k))
 unfolding rest
 rest_by S G r k n h e b =
-    let ls = lines_of r in
-    let l = line_of (bare_trees r.shapes) n in
+    let ls = rows_of r in
+    let l = row_of_node (bare_trees r.shapes) n in
     let before = said_behind [] (take k ls) in
     let hl : k < length ls = omega (arith, h, lines_long r) in
     let le : k ≤ length ls = omega (arith, hl) in
-    let line : get_or ls k l ≡ l = line_is r k n ∙ ap (line_of (bare_trees r.shapes)) e in
+    let line : get_or ls k l ≡ l = line_is r k n ∙ ap (row_of_node (bare_trees r.shapes)) e in
     let cut : drop k ls ≡ l ∷ drop (suc k) ls = drop-cons ls k l hl ∙ ap (λ x. x ∷ drop (suc k) ls) line in
     let more : take (suc k) ls ≡ take k ls ++ l ∷ [] = take-suc ls k l hl ∙ ap (λ x. take k ls ++ x ∷ []) line in
     let said : said_behind [] (take (suc k) ls) ≡ before ++ say before l ∷ [] = ap (said_behind []) more ∙ values_push say (take k ls) [] l in
@@ -104,5 +104,5 @@ is_valid S G r k i h = ap verdict_of (sym (rest_none S G r k h) ∙ i)
 pub nothing_concluded : (r : Tables) (e : Global (Unit {0})) → length r.nodes ≡ 0 → concludes r e ≡ false
 unfolding told
 nothing_concluded r e h =
-    let past : look (said_behind [] (lines_of r)) (pred (length r.nodes)) ≡ nothing = look_past (said_behind [] (lines_of r)) (pred (length r.nodes)) (omega (arith, h, said_length [] (lines_of r), lines_long r)) in
+    let past : look (said_behind [] (rows_of r)) (pred (length r.nodes)) ≡ nothing = look_past (said_behind [] (rows_of r)) (pred (length r.nodes)) (omega (arith, h, said_length [] (rows_of r), lines_long r)) in
     ap (λ m. concludes_as m e.body e.type) past

@@ -3,7 +3,7 @@
 ghost use Rattle.std.specs.Prelude.{◌≡◌, ◌<◌, length};
 ghost use Rattle.pts_ctx.specs.Front.{bare_front};
 ghost use Rattle.pts_record.specs.Table.{AllBelow, bare_trees, node_links, term_links};
-ghost use Rattle.pts_record.specs.Said.{told, line_of};
+ghost use Rattle.pts_record.specs.Said.{told, row_of_node};
 ghost use Rattle.pts_rules.specs.Conditions.{first_failing, assume_conditions, define_conditions, bare_conditions, form_fault};
 
 use crate::comparisons::{capp_fault, clam_fault, cpi_fault, left_fault, right_fault, same_fault};
@@ -26,7 +26,7 @@ pub(crate) fn node_fault(
     requires number { number < length proof.now.nodes }
     requires links { AllBelow number (node_links node.now) }
     requires terms { AllBelow (length proof.now.shapes) (term_links node.now) }
-    ensures { result ≡ form_fault system.now (bare_front front.now.entries) node.now.form (line_of (bare_trees proof.now.shapes) node.now) (told proof.now node.now.ctx) (told proof.now node.now.first) (told proof.now node.now.second) (told proof.now node.now.third) }
+    ensures { result ≡ form_fault system.now (bare_front front.now.entries) node.now.form (row_of_node (bare_trees proof.now.shapes) node.now) (told proof.now node.now.ctx) (told proof.now node.now.first) (told proof.now node.now.second) (told proof.now node.now.third) }
 {
     match node.form {
         Form::Empty => None,

@@ -175,19 +175,19 @@ pub(crate) fn both_places(proof: &Record, node: &Node) -> Option<Why>
 
 // The parts of a product.
 #[derive(Clone, Copy)]
-struct Product {
+struct ProductParts {
     domain: usize,
     body: usize,
 }
 
-fn product_in(proof: &Record, term: usize) -> Option<Product>
+fn product_in(proof: &Record, term: usize) -> Option<ProductParts>
     requires { term < length proof.now.shapes }
     ensures stand { IfSome result (λ p. (p.domain < length proof.now.shapes) × (p.body < length proof.now.shapes)) }
     ensures domain { option_map (λ p. bare_at proof.now.shapes p.domain) result ≡ domain_in (bare_at proof.now.shapes term) }
     ensures body { option_map (λ p. bare_at proof.now.shapes p.body) result ≡ codomain_in (bare_at proof.now.shapes term) }
 {
     match proof.shape(term) {
-        Shape::Pi(_, domain, body) => Some(Product {
+        Shape::Pi(_, domain, body) => Some(ProductParts {
             domain: *domain,
             body: *body,
         }),

@@ -8,7 +8,7 @@ use Rattle.pts_ctx.specs.Front.{Global, Fresh}
 
 -- The entries, the oldest first; the labels, each with the number of entries that stood there when it was marked; and
 -- how many more of each it takes without memory.
-pub record Seen : Type 0 where
+pub record SeenContext : Type 0 where
   pub entries : List (Global Name)
   pub labels : List (Name × ℕ)
   pub spare_entries : ℕ
@@ -49,5 +49,5 @@ abbrev pub IsPrefix : {A : Type 0} → List A → List A → Type 0
 IsPrefix {A} xs ys = (rest : List A) × (xs ++ rest ≡ ys)
 
 -- Both lists of the first context are prefixes of those of the second.
-abbrev pub IsFrontOf : Seen → Seen → Type 0
+abbrev pub IsFrontOf : SeenContext → SeenContext → Type 0
 IsFrontOf S T = IsPrefix S.entries T.entries × IsPrefix S.labels T.labels

@@ -32,10 +32,10 @@ impl Model for Context {
     ghost use Rattle.indexmap.specs.IndexMap.{spare};
     ghost use Rattle.indexmap.specs.IndexSet.{spare as name_spare};
     ghost use Rattle.pts_terms.specs.Code.{coded_tree};
-    ghost use Rattle.pts_ctx.specs.Seen.{Seen, NamesDiffer, LabelsInside, globals_within};
+    ghost use Rattle.pts_ctx.specs.Seen.{SeenContext, NamesDiffer, LabelsInside, globals_within};
     ghost use Rattle.pts_ctx.specs.Entries.{global_of};
 
-    ghost Value = { Seen };
+    ghost Value = { SeenContext };
 
     ghost coded = { Prim.hlevel (codes, coded_tree) };
 

@@ -121,7 +121,7 @@ fn rules_as_sorts(
 
 /// The axioms and the rules of a system by their sorts.
 #[derive(Drop)]
-pub struct Sorted {
+pub struct BySorts {
     pub axioms: Vec<(Sort, Sort)>,
     pub rules: Vec<(Sort, Sort, Sort)>,
 }
@@ -132,7 +132,7 @@ pub fn by_sorts(
     sorts: &[SortName],
     axioms: &[(SortName, SortName)],
     rules: &[(SortName, SortName, SortName)],
-) -> Result<Sorted, SystemFault>
+) -> Result<BySorts, SystemFault>
     ensures few { OnOk result (length sorts.now ≤ 64) }
     ensures axioms { IfOk result (λ s. map axiom_places s.axioms.items ≡ map (axiom_at sorts.now) axioms.now) }
     ensures rules { IfOk result (λ s. map rule_places s.rules.items ≡ map (rule_at sorts.now) rules.now) }
@@ -149,7 +149,7 @@ pub fn by_sorts(
     }
     let sorted_axioms = axioms_as_sorts(alloc, sorts, axioms)?;
     let sorted_rules = rules_as_sorts(alloc, sorts, rules)?;
-    Ok(Sorted {
+    Ok(BySorts {
         axioms: sorted_axioms,
         rules: sorted_rules,
     })

@@ -10,7 +10,7 @@ use Rattle.pts_infer_cost.proofs.Exact.{inference_once, sorts_once, fit_once}
 use Rattle.pts_infer.specs.Answered.{OfTerm, term_too_large, term_inferred, OfType, type_too_large, type_sorted, OfFitted, body_too_large, wanted_too_large, body_stops, body_fitted}
 use Rattle.pts_declare.specs.declared.fault.Part.TheVariants.{Whole, Ty}
 use Rattle.pts_declare.specs.Statements.{Statement, name_of, Stated, assumption, definition, typed_definition}
-use Rattle.pts_declare.specs.Declaring.{Declaring, unread, taken, flawed, turned, of_fit, entry, Checks, of_assumption, of_definition, of_typed_definition, Declares, unknown_word, taken_name, checked}
+use Rattle.pts_declare.specs.Declaring.{DeclareOutcome, unread, taken, flawed, turned, of_fit, entry, Checks, of_assumption, of_definition, of_typed_definition, Declares, unknown_word, taken_name, checked}
 
 module _ (S : Specification) (G : Globals) where
   term_once : (t : Named) (o p : Outcome Flaw Named) (m n : ℕ) → OfTerm S G t o m → OfTerm S G t p n → (o ≡ p) × (m ≡ n)
@@ -57,7 +57,7 @@ module _ (S : Specification) (G : Globals) where
       let q = fit_once S G inference_nesting [] U A o p n1 n2 g f in
       (q.0, ap₂ (λ a b. a + b) r.1 q.1)
 
-  checks_once : (x : Name) (s : Stated) (o p : Declaring) (m n : ℕ) → Checks S G x s o m → Checks S G x s p n → (o ≡ p) × (m ≡ n)
+  checks_once : (x : Name) (s : Stated) (o p : DeclareOutcome) (m n : ℕ) → Checks S G x s o m → Checks S G x s p n → (o ≡ p) × (m ≡ n)
   checks_once x (assumption A) o p m n (of_assumption u c e) (of_assumption v d f) =
       let r = type_once A u v m n c d in (e ∙ ap (turned (flawed Ty) (λ s. entry x None A)) r.0 ∙ sym f, r.1)
   checks_once x (definition t) o p m n (of_definition u c e) (of_definition v d f) =
@@ -65,7 +65,7 @@ module _ (S : Specification) (G : Globals) where
   checks_once x (typed_definition A t) o p m n (of_typed_definition u c e) (of_typed_definition v d f) =
       let r = fitted_once t A u v m n c d in (e ∙ ap (turned of_fit (λ q. entry x (Some t) A)) r.0 ∙ sym f, r.1)
 
-pub declares_once : (S : Specification) (M : Name) (G : Globals) (d : Statement) (o p : Declaring) (m n : ℕ) → Declares S M G d o m → Declares S M G d p n → (o ≡ p) × (m ≡ n)
+pub declares_once : (S : Specification) (M : Name) (G : Globals) (d : Statement) (o p : DeclareOutcome) (m n : ℕ) → Declares S M G d o m → Declares S M G d p n → (o ≡ p) × (m ≡ n)
 declares_once S M G d o p m n (unknown_word {e = e} q) (unknown_word {e = f} r) = let h : e ≡ f = cc in (ap (λ g. stops (by_flaw (unread g))) h, refl)
 declares_once S M G d o p m n (unknown_word q) (taken_name r k) = absurd (cc)
 declares_once S M G d o p m n (unknown_word q) (checked r k c) = absurd (cc)

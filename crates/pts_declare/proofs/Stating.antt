@@ -14,14 +14,14 @@ use Rattle.pts_check.specs.Entered.{declared}
 use Rattle.pts_declare.specs.declared.fault.DeclareFault.{DeclareFault}
 use Rattle.pts_declare.specs.declared.fault.DeclareFault.TheVariants.{Read, Taken, Flawed, Spent, Deep, Memory}
 use Rattle.pts_declare.specs.Statements.{Statement, name_of, Stated, stated, visible}
-use Rattle.pts_declare.specs.Declaring.{Declaring, taken, Checks, Declares, unknown_word, taken_name, checked}
+use Rattle.pts_declare.specs.Declaring.{DeclareOutcome, taken, Checks, Declares, unknown_word, taken_name, checked}
 use Rattle.pts_declare.specs.Answered.{NotDeclared, NotFree, told_unread}
 
 module _ (S : Specification) (M : Name) (G : Globals) (d : Statement) where
-  pub checked_within : (s : Stated) (o : Declaring) (b k : ℕ) → stated S.sorts (visible M G) d ≡ Ok s → place_of (joined M (name_of d)) G ≡ None → WithinBudget (Checks S G (joined M (name_of d)) s) b o k → WithinBudget (Declares S M G d) b o k
+  pub checked_within : (s : Stated) (o : DeclareOutcome) (b k : ℕ) → stated S.sorts (visible M G) d ≡ Ok s → place_of (joined M (name_of d)) G ≡ None → WithinBudget (Checks S G (joined M (name_of d)) s) b o k → WithinBudget (Declares S M G d) b o k
   checked_within s o b k r p (n, c, e) = (n, checked r p c, e)
 
-  one_stated : (s : Stated) (o : Declaring) (n : ℕ) → stated S.sorts (visible M G) d ≡ Ok s → place_of (joined M (name_of d)) G ≡ None → Declares S M G d o n → Checks S G (joined M (name_of d)) s o n
+  one_stated : (s : Stated) (o : DeclareOutcome) (n : ℕ) → stated S.sorts (visible M G) d ≡ Ok s → place_of (joined M (name_of d)) G ≡ None → Declares S M G d o n → Checks S G (joined M (name_of d)) s o n
   one_stated s o n r p (unknown_word q) = absurd (cc)
   one_stated s o n r p (taken_name q f) = absurd (cc)
   one_stated s o n r p (checked {s = t} q f c) = let e : t ≡ s = cc in subst (λ u. Checks S G (joined M (name_of d)) u o n) e c

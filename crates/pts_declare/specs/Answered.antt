@@ -27,11 +27,11 @@ use Rattle.pts_declare.specs.declared.stated.Stated.{Stated as TheStated}
 use Rattle.pts_declare.specs.declared.stated.Stated.TheVariants.{Assumption, Definition, Typed}
 use Rattle.pts_declare.specs.Statements.{Stated, assumption, definition, typed_definition}
 use Rattle.pts_declare.specs.Words.{reason_text, stop_text, spent_text}
-use Rattle.pts_declare.specs.Declaring.{Declaring, unread, taken, flawed}
+use Rattle.pts_declare.specs.Declaring.{DeclareOutcome, unread, taken, flawed}
 
 -- With b units before and k after it: the outcome is the reason that is told, or something beyond the limits; or each
 -- outcome costs more than b, and nothing is left. Want of memory is free.
-abbrev pub NotDeclared : (Declaring → ℕ → Type 0) → DeclareFault → ℕ → ℕ → Type 0
+abbrev pub NotDeclared : (DeclareOutcome → ℕ → Type 0) → DeclareFault → ℕ → ℕ → Type 0
 NotDeclared costs (Read e) b k = WithinBudget costs b (stops (by_flaw (unread e))) k
 NotDeclared costs (Taken x p) b k = WithinBudget costs b (stops (by_flaw (taken x p))) k
 NotDeclared costs (Flawed part f) b k = WithinBudget costs b (stops (by_flaw (flawed part (flaw_seen f)))) k

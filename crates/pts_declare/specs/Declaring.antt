@@ -21,8 +21,8 @@ pub data Reason : Type 0 where
   flawed : Part → Flaw → Reason
 
 -- A statement comes to an entry, or is stopped by a reason or by the limits.
-abbrev pub Declaring : Type 0
-Declaring = Outcome Reason (Global Name)
+abbrev pub DeclareOutcome : Type 0
+DeclareOutcome = Outcome Reason (Global Name)
 
 abbrev pub turned : {E F A B : Type 0} → (E → F) → (A → B) → Outcome E A → Outcome F B
 turned f g (comes x) = comes (g x)
@@ -37,14 +37,14 @@ abbrev pub entry : Name → Option Named → Named → Global Name
 entry x a A = record { name = x; body = a; type = A }
 
 -- Checks S G x s o n: in the system S and over the front G, what is stated as x comes to o and costs n.
-pub data Checks (S : Specification) (G : Globals) (x : Name) : Stated → Declaring → ℕ → Type 0 where
-  of_assumption : {A : Named} {p : Declaring} {n : ℕ} (o : Outcome Flaw ℕ) → OfType S G A o n → p ≡ turned (flawed Ty) (λ s. entry x None A) o → Checks S G x (assumption A) p n
-  of_definition : {t : Named} {p : Declaring} {n : ℕ} (o : Outcome Flaw Named) → OfTerm S G t o n → p ≡ turned (flawed Whole) (λ A. entry x (Some t) A) o → Checks S G x (definition t) p n
-  of_typed_definition : {A t : Named} {p : Declaring} {n : ℕ} (o : Outcome FitFlaw (Unit {0})) → OfFitted S G t A o n → p ≡ turned of_fit (λ q. entry x (Some t) A) o → Checks S G x (typed_definition A t) p n
+pub data Checks (S : Specification) (G : Globals) (x : Name) : Stated → DeclareOutcome → ℕ → Type 0 where
+  of_assumption : {A : Named} {p : DeclareOutcome} {n : ℕ} (o : Outcome Flaw ℕ) → OfType S G A o n → p ≡ turned (flawed Ty) (λ s. entry x None A) o → Checks S G x (assumption A) p n
+  of_definition : {t : Named} {p : DeclareOutcome} {n : ℕ} (o : Outcome Flaw Named) → OfTerm S G t o n → p ≡ turned (flawed Whole) (λ A. entry x (Some t) A) o → Checks S G x (definition t) p n
+  of_typed_definition : {A t : Named} {p : DeclareOutcome} {n : ℕ} (o : Outcome FitFlaw (Unit {0})) → OfFitted S G t A o n → p ≡ turned of_fit (λ q. entry x (Some t) A) o → Checks S G x (typed_definition A t) p n
 
 -- Declares S M G d o n: the same of a statement of the module M, whose entry is called after the module. Its names and
 -- sorts are looked up first, and then its own name; both cost nothing.
-pub data Declares (S : Specification) (M : Name) (G : Globals) (d : Statement) : Declaring → ℕ → Type 0 where
+pub data Declares (S : Specification) (M : Name) (G : Globals) (d : Statement) : DeclareOutcome → ℕ → Type 0 where
   unknown_word : {e : ReadFault} → stated S.sorts (visible M G) d ≡ Err e → Declares S M G d (stops (by_flaw (unread e))) 0
   taken_name : {s : Stated} {k : ℕ} → stated S.sorts (visible M G) d ≡ Ok s → place_of (joined M (name_of d)) G ≡ Some k → Declares S M G d (stops (by_flaw (taken (joined M (name_of d)) k))) 0
-  checked : {s : Stated} {o : Declaring} {n : ℕ} → stated S.sorts (visible M G) d ≡ Ok s → place_of (joined M (name_of d)) G ≡ None → Checks S G (joined M (name_of d)) s o n → Declares S M G d o n
+  checked : {s : Stated} {o : DeclareOutcome} {n : ℕ} → stated S.sorts (visible M G) d ≡ Ok s → place_of (joined M (name_of d)) G ≡ None → Checks S G (joined M (name_of d)) s o n → Declares S M G d o n

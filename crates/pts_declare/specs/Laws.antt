@@ -4,8 +4,8 @@ use Rattle.pts_names.specs.Name.{Name}
 use Rattle.pts_ctx.specs.System.{Specification}
 use Rattle.pts_reduce_cost.specs.Costs.{Globals}
 use Rattle.pts_declare.specs.Statements.{Statement}
-use Rattle.pts_declare.specs.Declaring.{Declaring, Declares}
+use Rattle.pts_declare.specs.Declaring.{DeclareOutcome, Declares}
 
 -- There is one outcome at most, at one cost.
 abbrev pub StatementsHaveOneOutcome : Type 0
-StatementsHaveOneOutcome = (S : Specification) (M : Name) (G : Globals) (d : Statement) (o p : Declaring) (m n : ℕ) → Declares S M G d o m → Declares S M G d p n → (o ≡ p) × (m ≡ n)
+StatementsHaveOneOutcome = (S : Specification) (M : Name) (G : Globals) (d : Statement) (o p : DeclareOutcome) (m n : ℕ) → Declares S M G d o m → Declares S M G d p n → (o ≡ p) × (m ≡ n)

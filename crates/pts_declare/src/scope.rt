@@ -21,9 +21,9 @@ impl<'a> Model for FileScope<'a> {
     ghost use Rattle.std.specs.Prelude.{◌≤◌, length};
     ghost use Rattle.std.specs.Coded.{codes};
     ghost use Rattle.pts_terms.specs.Code.{coded_tree};
-    ghost use Rattle.pts_declare.specs.Seen.{Seen};
+    ghost use Rattle.pts_declare.specs.Seen.{SeenScope};
 
-    ghost Value = { Seen };
+    ghost Value = { SeenScope };
 
     ghost coded = { Prim.hlevel (codes, coded_tree) };
 

@@ -13,13 +13,13 @@ use Rattle.pts_format.specs.declared.ended.Ended.{Ended}
 use Rattle.pts_format.specs.declared.ended.Ended.TheVariants as ended
 use Rattle.pts_format.specs.Lines.{AnswersSome, AnswersAll, AnswersFirst, none_yet}
 use Rattle.pts_format.specs.Calls.{Replies, EndsBy}
-use Rattle.pts_format.specs.Ends.{IsCount, Shows, Answers}
+use Rattle.pts_format.specs.Ends.{IsCount, Shows, EndAnswers}
 use Rattle.pts_format.proofs.Progress.{Stands, if_some_map, goes_on, answers_some, answers_all, answers_within, answers_given}
 
 -- What is said of a call that came to this end.
 abbrev pub Report : (sorts : List (List ℕ)) (limit : ℕ) (given given_after : ℕ) (left written written_after : Option (List ℕ)) → Ended → Type 0
 Report sorts limit given given_after left written written_after e =
-    (n : ℕ) × (given_after ≡ raised given n) × IsCount limit e n × ((out : List ℕ) × Shows e written written_after out × IfSome left (λ bytes. Answers sorts limit e n bytes out))
+    (n : ℕ) × (given_after ≡ raised given n) × IsCount limit e n × ((out : List ℕ) × Shows e written written_after out × IfSome left (λ bytes. EndAnswers sorts limit e n bytes out))
 
 -- The lines stand so, where the source tells its bytes.
 abbrev pub Stood : (sorts : List (List ℕ)) (limit : ℕ) (left : Option (List ℕ)) → Reading → Option (List ℕ) → ℕ → List ℕ → Type 0

@@ -22,9 +22,9 @@ Shows WriteFailed old new out = (n : ℕ) × (n ≤ length out) × (new ≡ appe
 Shows NoMemory old new out = new ≡ append_known old out
 
 -- What the text answers of the bytes, of which n were taken.
-abbrev pub Answers : List (List ℕ) → ℕ → Ended → ℕ → List ℕ → List ℕ → Type 0
-Answers sorts limit Whole n bytes out = AnswersAll sorts bytes out
-Answers sorts limit ReadFailed n bytes out = AnswersFirst sorts n bytes out
-Answers sorts limit TooMuch n bytes out = (limit < length bytes) × AnswersFirst sorts limit bytes out
-Answers sorts limit WriteFailed n bytes out = AnswersSome sorts bytes out
-Answers sorts limit NoMemory n bytes out = AnswersSome sorts bytes out
+abbrev pub EndAnswers : List (List ℕ) → ℕ → Ended → ℕ → List ℕ → List ℕ → Type 0
+EndAnswers sorts limit Whole n bytes out = AnswersAll sorts bytes out
+EndAnswers sorts limit ReadFailed n bytes out = AnswersFirst sorts n bytes out
+EndAnswers sorts limit TooMuch n bytes out = (limit < length bytes) × AnswersFirst sorts limit bytes out
+EndAnswers sorts limit WriteFailed n bytes out = AnswersSome sorts bytes out
+EndAnswers sorts limit NoMemory n bytes out = AnswersSome sorts bytes out

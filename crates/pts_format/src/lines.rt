@@ -1,7 +1,7 @@
 ghost use Rattle.std.specs.Prelude.{◌≡◌, ◌≢◌, ℕ, List, IfSome};
 ghost use Rattle.pts_io.specs.Counts.{raised, Rose};
 ghost use Rattle.pts_format.specs.declared.ended.Ended.{Ended};
-ghost use Rattle.pts_format.specs.Ends.{IsCount, Shows, Answers};
+ghost use Rattle.pts_format.specs.Ends.{IsCount, Shows, EndAnswers};
 
 use crate::ended::Ended;
 use crate::text::answer_input;
@@ -28,7 +28,7 @@ pub fn format_lines<S: Source, K: Sink>(
     ensures writes { result ≢ Ended.WriteFailed → K.faults sink.new ≡ K.faults sink.old }
     ensures lines { (n : ℕ) × (S.given source.new ≡ raised (S.given source.old) n) × IsCount limit result n
         × ((out : List ℕ) × Shows result (K.written sink.old) (K.written sink.new) out
-        × IfSome (S.left source.old) (λ bytes. Answers system.now.sorts limit result n bytes out)) }
+        × IfSome (S.left source.old) (λ bytes. EndAnswers system.now.sorts limit result n bytes out)) }
 {
     let Ok(mut reader) = LineReader::new(alloc, u64::from(limit)) else {
         return Ended::NoMemory;

@@ -9,9 +9,9 @@ use Rattle.pts_grammar.specs.declared.frame.Binder.{Binder}
 use Rattle.pts_grammar.specs.declared.frame.Binder.TheVariants.{Lam, Pi}
 use Rattle.pts_grammar.specs.Syntax.{Syntax, app, let_in, depth_of}
 use Rattle.pts_grammar.specs.Grammar.{Reads}
-use Rattle.pts_grammar.specs.Machine.{syntax, bound_syntax, Outcome, read, expected, too_deep, begin, run}
+use Rattle.pts_grammar.specs.Machine.{syntax, bound_syntax, ParseOutcome, read, expected, too_deep, begin, run}
 use Rattle.pts_grammar.specs.Refusals.{Refused, NoneTooMany, FirstTooMany, TooDeepTerm}
-use Rattle.pts_grammar.specs.Seen.{Part, within, with_two, with_three, parts}
+use Rattle.pts_grammar.specs.Seen.{Subtree, within, with_two, with_three, parts}
 use Rattle.pts_grammar.specs.Open.{more}
 use Rattle.pts_grammar.proofs.Carried.{on_outcome, same_run}
 use Rattle.pts_grammar.proofs.Sound.{machine_sound}
@@ -72,7 +72,7 @@ carried length ts = same_run syntax parts within (λ p s. refl) (λ p x. refl) (
 pub answers_expected : (length p : ℕ) (k : Kind) (ts : List Spot) → expected p k ≡ run parts more length (begin []) ts → Refused length ts k p × NoneTooMany 2000 ts
 answers_expected length p k ts h = by (run syntax more length (begin []) ts) refl (h ∙ carried length ts)
   where
-    by : (o : Outcome Syntax) → run syntax more length (begin []) ts ≡ o → expected p k ≡ on_outcome syntax parts within (λ p s. refl) (λ p x. refl) (of_two app (λ T U. refl)) (λ b x. of_two (bound_syntax b x) (bound_depth b x)) (λ x. of_three (let_in x) (λ T U V. refl)) o → Refused length ts k p × NoneTooMany 2000 ts
+    by : (o : ParseOutcome Syntax) → run syntax more length (begin []) ts ≡ o → expected p k ≡ on_outcome syntax parts within (λ p s. refl) (λ p x. refl) (of_two app (λ T U. refl)) (λ b x. of_two (bound_syntax b x) (bound_depth b x)) (λ x. of_three (let_in x) (λ T U V. refl)) o → Refused length ts k p × NoneTooMany 2000 ts
     by (expected q j) e g =
         let places : p ≡ q = cc g in
         let kinds : k ≡ j = cc g in
@@ -83,21 +83,21 @@ answers_expected length p k ts h = by (run syntax more length (begin []) ts) ref
 pub answers_too_deep : (length p : ℕ) (ts : List Spot) → too_deep p ≡ run parts more length (begin []) ts → FirstTooMany 2000 ts p
 answers_too_deep length p ts h = by (run syntax more length (begin []) ts) refl (h ∙ carried length ts)
   where
-    by : (o : Outcome Syntax) → run syntax more length (begin []) ts ≡ o → too_deep p ≡ on_outcome syntax parts within (λ p s. refl) (λ p x. refl) (of_two app (λ T U. refl)) (λ b x. of_two (bound_syntax b x) (bound_depth b x)) (λ x. of_three (let_in x) (λ T U V. refl)) o → FirstTooMany 2000 ts p
+    by : (o : ParseOutcome Syntax) → run syntax more length (begin []) ts ≡ o → too_deep p ≡ on_outcome syntax parts within (λ p s. refl) (λ p x. refl) (of_two app (λ T U. refl)) (λ b x. of_two (bound_syntax b x) (bound_depth b x)) (λ x. of_three (let_in x) (λ T U V. refl)) o → FirstTooMany 2000 ts p
     by (too_deep q) e g = let places : p ≡ q = cc g in too_deep_is_too_many 2000 length p ts (e ∙ sym (ap too_deep places))
     by (read T us) e g = absurd (cc g)
     by (expected q k) e g = absurd (cc g)
 
 -- What was read, with its syntax.
-pub record IsRead (length : ℕ) (ts : List Spot) (t : Part) (rest : List Spot) : Type 0 where
+pub record IsRead (length : ℕ) (ts : List Spot) (t : Subtree) (rest : List Spot) : Type 0 where
   pub whole : Syntax
   pub is_read : run syntax more length (begin []) ts ≡ read whole rest
   pub kept : t ≡ within whole
 
-pub answers_read : (length : ℕ) (ts : List Spot) (t : Part) (rest : List Spot) → read t rest ≡ run parts more length (begin []) ts → IsRead length ts t rest
+pub answers_read : (length : ℕ) (ts : List Spot) (t : Subtree) (rest : List Spot) → read t rest ≡ run parts more length (begin []) ts → IsRead length ts t rest
 answers_read length ts t rest h = by (run syntax more length (begin []) ts) refl (h ∙ carried length ts)
   where
-    by : (o : Outcome Syntax) → run syntax more length (begin []) ts ≡ o → read t rest ≡ on_outcome syntax parts within (λ p s. refl) (λ p x. refl) (of_two app (λ T U. refl)) (λ b x. of_two (bound_syntax b x) (bound_depth b x)) (λ x. of_three (let_in x) (λ T U V. refl)) o → IsRead length ts t rest
+    by : (o : ParseOutcome Syntax) → run syntax more length (begin []) ts ≡ o → read t rest ≡ on_outcome syntax parts within (λ p s. refl) (λ p x. refl) (of_two app (λ T U. refl)) (λ b x. of_two (bound_syntax b x) (bound_depth b x)) (λ x. of_three (let_in x) (λ T U V. refl)) o → IsRead length ts t rest
     by (read T us) e g =
         let parts_same : t ≡ within T = cc g in
         let rests : rest ≡ us = cc g in
@@ -134,7 +134,7 @@ answers_deep length ts h =
     let r = answers_read length ts None [] h in
     ((r.whole, machine_sound more length ts r.whole [] r.is_read, not_kept r.whole r.kept), none_read length ts r.whole [] r.is_read)
 
-pub answers_more : (length p : ℕ) (ts rest : List Spot) (t : Part) (u : Token) → read t ((p, u) ∷ rest) ≡ run parts more length (begin []) ts → Refused length ts kind.End p × NoneTooMany 2000 ts
+pub answers_more : (length p : ℕ) (ts rest : List Spot) (t : Subtree) (u : Token) → read t ((p, u) ∷ rest) ≡ run parts more length (begin []) ts → Refused length ts kind.End p × NoneTooMany 2000 ts
 answers_more length p ts rest t u h =
     let r = answers_read length ts t ((p, u) ∷ rest) h in
     (end_is_wanted more length p u r.whole ts rest r.is_read, none_read length ts r.whole ((p, u) ∷ rest) r.is_read)

@@ -7,7 +7,7 @@ use Rattle.pts_tokens.specs.Tokens.{Spot}
 use Rattle.pts_grammar.specs.declared.kind.Kind.TheVariants.{Name as name_wanted}
 use Rattle.pts_grammar.specs.declared.frame.Binder.{Binder}
 use Rattle.pts_grammar.specs.declared.frame.Binder.TheVariants.{Pi}
-use Rattle.pts_grammar.specs.Machine.{Build, Frame, in_parens, at_type, at_body, let_value, let_type, let_body, behind_arrow, State, begin, binder, binder_sign, let_name, let_sign, after, Move, go, stay, fail, deep, Outcome, read, expected, too_deep, opened, applied_to, closing, opening, if_plain, step, whole, at_end, run}
+use Rattle.pts_grammar.specs.Machine.{Build, Frame, in_parens, at_type, at_body, let_value, let_type, let_body, behind_arrow, State, begin, binder, binder_sign, let_name, let_sign, after, Move, go, stay, fail, deep, ParseOutcome, read, expected, too_deep, opened, applied_to, closing, opening, if_plain, step, whole, at_end, run}
 
 module _ {D E : Type 0} (B : Build D) (C : Build E) (h : D → E)
     (h_sort : (p : ℕ) (s : Name) → h (B.of_sort p s) ≡ C.of_sort p s) (h_name : (p : ℕ) (x : Name) → h (B.of_name p x) ≡ C.of_name p x)
@@ -41,7 +41,7 @@ module _ {D E : Type 0} (B : Build D) (C : Build E) (h : D → E)
   on_move (fail k) = fail k
   on_move deep = deep
 
-  abbrev pub on_outcome : Outcome D → Outcome E
+  abbrev pub on_outcome : ParseOutcome D → ParseOutcome E
   on_outcome (read T ts) = read (h T) ts
   on_outcome (expected p k) = expected p k
   on_outcome (too_deep p) = too_deep p

@@ -9,7 +9,7 @@ use Rattle.pts_grammar.specs.declared.frame.Binder.{Binder}
 use Rattle.pts_grammar.specs.declared.frame.Binder.TheVariants.{Lam, Pi}
 use Rattle.pts_grammar.specs.Syntax.{Syntax, pi, let_in}
 use Rattle.pts_grammar.specs.Grammar.{Reads, abstraction, product, definition, application, arrow, App, atoms, Args, no_more, one_more, Atom, a_sort, a_name, parentheses}
-use Rattle.pts_grammar.specs.Machine.{syntax, bound_syntax, Frame, in_parens, at_type, at_body, let_value, let_type, let_body, behind_arrow, State, begin, binder, binder_sign, let_name, let_sign, after, Move, go, stay, fail, deep, Outcome, read, expected, too_deep, opened, applied_to, closing, opening, if_plain, step, whole, run}
+use Rattle.pts_grammar.specs.Machine.{syntax, bound_syntax, Frame, in_parens, at_type, at_body, let_value, let_type, let_body, behind_arrow, State, begin, binder, binder_sign, let_name, let_sign, after, Move, go, stay, fail, deep, ParseOutcome, read, expected, too_deep, opened, applied_to, closing, opening, if_plain, step, whole, run}
 
 -- The open constructs, with syntax.
 abbrev pub Frames : Type 0
@@ -29,11 +29,11 @@ Ends [] = Unit {0}
 Ends (t ∷ us) = continues t.1 ≡ false
 
 -- One outcome is the other, or a parenthesis was open too many.
-pub data Agrees : Outcome Syntax → Outcome Syntax → Type 0 where
-  exactly : {a b : Outcome Syntax} → a ≡ b → Agrees a b
-  cut_off : {a b : Outcome Syntax} (p : ℕ) → a ≡ too_deep p → Agrees a b
+pub data Agrees : ParseOutcome Syntax → ParseOutcome Syntax → Type 0 where
+  exactly : {a b : ParseOutcome Syntax} → a ≡ b → Agrees a b
+  cut_off : {a b : ParseOutcome Syntax} (p : ℕ) → a ≡ too_deep p → Agrees a b
 
-pub and_so : {a b c : Outcome Syntax} → Agrees a b → Agrees b c → Agrees a c
+pub and_so : {a b c : ParseOutcome Syntax} → Agrees a b → Agrees b c → Agrees a c
 and_so (exactly e) (exactly f) = exactly (e ∙ f)
 and_so (exactly e) (cut_off p f) = cut_off p (e ∙ f)
 and_so (cut_off p f) _ = cut_off p f
@@ -53,11 +53,11 @@ opening_is more f K = cases (more (opened K))
 
 module _ (more : ℕ → Bool) (length : ℕ) where
   -- What comes of a token, given what it does.
-  unfoldable pub follow : Move Syntax → Spot → List Spot → Outcome Syntax
+  unfoldable pub follow : Move Syntax → Spot → List Spot → ParseOutcome Syntax
   follow m t us = elim m [ go R ↦ run syntax more length R us | stay T ↦ read T (t ∷ us) | fail k ↦ expected t.0 k | deep ↦ too_deep t.0 ]
 
   -- What comes of a whole term behind which no token goes on.
-  unfoldable pub ended : Frames → Syntax → List Spot → Outcome Syntax
+  unfoldable pub ended : Frames → Syntax → List Spot → ParseOutcome Syntax
   ended K T [] = whole syntax length K T
   ended K T (t ∷ us) = follow (closing syntax K T t.1) t us
 

@@ -10,7 +10,7 @@ use Rattle.pts_grammar.specs.declared.kind.Kind.{Kind}
 use Rattle.pts_grammar.specs.declared.kind.Kind.TheVariants as kind
 use Rattle.pts_grammar.specs.Syntax.{Syntax}
 use Rattle.pts_grammar.specs.Grammar.{Reads}
-use Rattle.pts_grammar.specs.Machine.{syntax, in_parens, at_type, at_body, let_value, let_type, let_body, behind_arrow, State, begin, binder, binder_sign, let_name, let_sign, after, Move, go, stay, fail, deep, Outcome, read, expected, too_deep, applied_to, closing, if_plain, step, whole, at_end, run}
+use Rattle.pts_grammar.specs.Machine.{syntax, in_parens, at_type, at_body, let_value, let_type, let_body, behind_arrow, State, begin, binder, binder_sign, let_name, let_sign, after, Move, go, stay, fail, deep, ParseOutcome, read, expected, too_deep, applied_to, closing, if_plain, step, whole, at_end, run}
 use Rattle.pts_grammar.specs.Refusals.{Viable, CanFollow, Wants, a_colon, a_dot, an_assign, an_in, a_close, the_end, a_name, a_term, Refused, at_token, at_length}
 use Rattle.pts_grammar.proofs.Complete.{Frames, follow, plain_goes, Agrees, exactly, cut_off}
 use Rattle.pts_grammar.proofs.Sound.{always, machine_sound, read_always}
@@ -99,7 +99,7 @@ end_kind length p (let_sign x K) k h = (cc h, cc h)
 end_kind length p (after K f) k h = whole_kind length p K f k h
 
 -- Which token closes what is open, given what each token does there.
-pub data Closes (move : Token → Move Syntax) (end : Outcome Syntax) : Kind → Type 0 where
+pub data Closes (move : Token → Move Syntax) (end : ParseOutcome Syntax) : Kind → Type 0 where
   by_close : (Q : State Syntax) → move Close ≡ go Q → Closes move end kind.Close
   by_dot : (Q : State Syntax) → move Dot ≡ go Q → Closes move end kind.Dot
   by_colon : (Q : State Syntax) → move Colon ≡ go Q → Closes move end kind.Colon

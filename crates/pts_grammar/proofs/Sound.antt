@@ -9,7 +9,7 @@ use Rattle.pts_grammar.specs.declared.frame.Binder.{Binder}
 use Rattle.pts_grammar.specs.declared.frame.Binder.TheVariants.{Lam, Pi}
 use Rattle.pts_grammar.specs.Syntax.{Syntax, sort, name, app, pi, let_in}
 use Rattle.pts_grammar.specs.Grammar.{Reads, abstraction, product, definition, application, arrow, App, atoms, Args, no_more, one_more, Atom, a_sort, a_name, parentheses}
-use Rattle.pts_grammar.specs.Machine.{syntax, bound_syntax, in_parens, at_type, at_body, let_value, let_type, let_body, behind_arrow, State, begin, binder, binder_sign, let_name, let_sign, after, Move, go, stay, fail, deep, Outcome, read, expected, too_deep, applied_to, closing, opening, if_plain, step, whole, at_end, run}
+use Rattle.pts_grammar.specs.Machine.{syntax, bound_syntax, in_parens, at_type, at_body, let_value, let_type, let_body, behind_arrow, State, begin, binder, binder_sign, let_name, let_sign, after, Move, go, stay, fail, deep, ParseOutcome, read, expected, too_deep, applied_to, closing, opening, if_plain, step, whole, at_end, run}
 use Rattle.pts_grammar.proofs.Complete.{Frames, follow, ended, Ends, Agrees, exactly, cut_off, plain_goes, plain_fails, opening_is, reads_run}
 
 -- Perhaps an arrow behind an application.
@@ -126,7 +126,7 @@ module _ (more : ℕ → Bool) (length : ℕ) (T : Syntax) (rs : List Spot) wher
     | inr e ↦ absurd (wrong (ap (λ m. follow more length m (p, Open) us) (sym e) ∙ h))
   ]
     where
-      wrong : ◌≡◌ {A = Outcome Syntax} (too_deep p) (read T rs) → ⊥
+      wrong : ◌≡◌ {A = ParseOutcome Syntax} (too_deep p) (read T rs) → ⊥
       wrong e = cc e
 
   plain_sound : (us : List Spot) (q : ℕ) (x : Name) (S R : State Syntax) → (is_identifier x ≡ true → run syntax more length S us ≡ read T rs → Goes R ((q, Word x) ∷ us) T rs) → (c : Bool) → is_identifier x ≡ c → follow more length (if_plain syntax x S) (q, Word x) us ≡ read T rs → Goes R ((q, Word x) ∷ us) T rs
@@ -134,7 +134,7 @@ module _ (more : ℕ → Bool) (length : ℕ) (T : Syntax) (rs : List Spot) wher
   plain_sound us q x S R ih true e h = ih e (ap (λ m. follow more length m (q, Word x) us) (sym (plain_goes x S e)) ∙ h)
   plain_sound us q x S R ih false e h = absurd (wrong (ap (λ m. follow more length m (q, Word x) us) (sym (plain_fails x S e)) ∙ h))
     where
-      wrong : ◌≡◌ {A = Outcome Syntax} (expected q name_wanted) (read T rs) → ⊥
+      wrong : ◌≡◌ {A = ParseOutcome Syntax} (expected q name_wanted) (read T rs) → ⊥
       wrong e = cc e
 
   pub run_sound : (us : List Spot) (S : State Syntax) → run syntax more length S us ≡ read T rs → Goes S us T rs

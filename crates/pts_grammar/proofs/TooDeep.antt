@@ -6,7 +6,7 @@ use Rattle.pts_tokens.specs.declared.token.Token.TheVariants.{Lambda, At, Let, I
 use Rattle.pts_tokens.specs.Tokens.{Spot}
 use Rattle.pts_grammar.specs.declared.kind.Kind.TheVariants.{Name as name_wanted}
 use Rattle.pts_grammar.specs.Syntax.{Syntax}
-use Rattle.pts_grammar.specs.Machine.{syntax, in_parens, at_type, at_body, let_value, let_type, let_body, behind_arrow, State, begin, binder, binder_sign, let_name, let_sign, after, Move, go, stay, fail, deep, Outcome, too_deep, opened, applied_to, closing, opening, if_plain, step, run, read, at_end}
+use Rattle.pts_grammar.specs.Machine.{syntax, in_parens, at_type, at_body, let_value, let_type, let_body, behind_arrow, State, begin, binder, binder_sign, let_name, let_sign, after, Move, go, stay, fail, deep, ParseOutcome, too_deep, opened, applied_to, closing, opening, if_plain, step, run, read, at_end}
 use Rattle.pts_grammar.specs.Refusals.{open_behind, TooMany, too_many, NoneTooMany, FirstTooMany, first_too_many}
 use Rattle.pts_grammar.proofs.Complete.{Frames, follow}
 use Rattle.pts_grammar.proofs.Sound.{always, end_shallow, step_shallow, read_always}
@@ -187,7 +187,7 @@ too_many_cuts limit length p ts (too_many vs us s (xs, T, d) b) =
     by R h (inr (q, w)) = (q, ap (run syntax (below limit) length (begin [])) s ∙ w)
 
 -- And where it is not cut off there is none.
-pub none_too_many : (limit length : ℕ) (ts : List Spot) (o : Outcome Syntax) → run syntax (below limit) length (begin []) ts ≡ o → ((q : ℕ) → ¬ (o ≡ too_deep q)) → NoneTooMany limit ts
+pub none_too_many : (limit length : ℕ) (ts : List Spot) (o : ParseOutcome Syntax) → run syntax (below limit) length (begin []) ts ≡ o → ((q : ℕ) → ¬ (o ≡ too_deep q)) → NoneTooMany limit ts
 none_too_many limit length ts o h n p t =
     let (q, w) = too_many_cuts limit length p ts t in
     n q (sym h ∙ w)
@@ -244,7 +244,7 @@ deep_back limit length p ts vs ((q, t) ∷ us) R a e n s h = elim (step_same (be
   | inr w ↦ is_too_many limit p ts vs us q t R a e n s (place_of (ap (λ m. follow (below limit) length m (q, t) us) (sym w) ∙ h)) (deep_open limit R q t w)
 ]
   where
-    place_of : ◌≡◌ {A = Outcome Syntax} (too_deep q) (too_deep p) → q ≡ p
+    place_of : ◌≡◌ {A = ParseOutcome Syntax} (too_deep q) (too_deep p) → q ≡ p
     place_of g = cc g
 
 pub too_deep_is_too_many : (limit length p : ℕ) (ts : List Spot) → run syntax (below limit) length (begin []) ts ≡ too_deep p → FirstTooMany limit ts p

@@ -59,10 +59,10 @@ pub data Move (D : Type 0) : Type 0 where
 
 -- What is read, and the tokens behind it; or the place at which another kind of token is wanted; or that of a
 -- parenthesis that is one too many.
-pub data Outcome (D : Type 0) : Type 0 where
-  read : D → List Spot → Outcome D
-  expected : ℕ → Kind → Outcome D
-  too_deep : ℕ → Outcome D
+pub data ParseOutcome (D : Type 0) : Type 0 where
+  read : D → List Spot → ParseOutcome D
+  expected : ℕ → Kind → ParseOutcome D
+  too_deep : ℕ → ParseOutcome D
 
 -- How many parentheses are open.
 abbrev pub opened : {D : Type 0} → List (Frame D) → ℕ
@@ -130,7 +130,7 @@ module _ {D : Type 0} (B : Build D) where
   step more (after K f) (p, t) = closing K f t
 
   -- The end of the text behind a whole term.
-  abbrev pub whole : ℕ → List (Frame D) → D → Outcome D
+  abbrev pub whole : ℕ → List (Frame D) → D → ParseOutcome D
   whole length [] T = read T []
   whole length (at_body b x A ∷ K) T = whole length K (B.bound b x A T)
   whole length (let_body x d A ∷ K) T = whole length K (B.defined x d A T)
@@ -141,7 +141,7 @@ module _ {D : Type 0} (B : Build D) where
   whole length (let_type x d ∷ K) T = expected length in_wanted
 
   -- The end of the text, whose length is given.
-  abbrev pub at_end : ℕ → State D → Outcome D
+  abbrev pub at_end : ℕ → State D → ParseOutcome D
   at_end length (begin K) = expected length term_wanted
   at_end length (binder b K) = expected length name_wanted
   at_end length (binder_sign b x K) = expected length colon_wanted
@@ -150,6 +150,6 @@ module _ {D : Type 0} (B : Build D) where
   at_end length (after K f) = whole length K f
 
   -- The reading of all tokens.
-  abbrev pub run : (ℕ → Bool) → ℕ → State D → List Spot → Outcome D
+  abbrev pub run : (ℕ → Bool) → ℕ → State D → List Spot → ParseOutcome D
   run more length S [] = at_end length S
   run more length S (t ∷ us) = elim (step more S t) [ go R ↦ run more length R us | stay T ↦ read T (t ∷ us) | fail k ↦ expected t.0 k | deep ↦ too_deep t.0 ]

@@ -7,11 +7,11 @@ use Rattle.pts_grammar.specs.declared.state.State.{State as TheState}
 use Rattle.pts_grammar.specs.declared.state.Move.{Move as TheMove}
 use Rattle.pts_grammar.specs.declared.state.Around.{Around}
 use Rattle.pts_grammar.specs.declared.parser.Parsed.{Parsed}
-use Rattle.pts_grammar.specs.Machine.{Frame, in_parens, at_type, at_body, let_value, let_type, let_body, behind_arrow, State, begin, binder, binder_sign, let_name, let_sign, after, Move, go, stay, fail, deep, Outcome, read, expected, too_deep, is_bracket, closing}
-use Rattle.pts_grammar.specs.Seen.{Part, part_of, parts}
+use Rattle.pts_grammar.specs.Machine.{Frame, in_parens, at_type, at_body, let_value, let_type, let_body, behind_arrow, State, begin, binder, binder_sign, let_name, let_sign, after, Move, go, stay, fail, deep, ParseOutcome, read, expected, too_deep, is_bracket, closing}
+use Rattle.pts_grammar.specs.Seen.{Subtree, part_of, parts}
 
 -- The open constructs, and where the reading is.
-abbrev pub frame : TheFrame → Frame Part
+abbrev pub frame : TheFrame → Frame Subtree
 frame (TheFrame.Parens f) = in_parens (option_map part_of f)
 frame (TheFrame.Type b x) = at_type b x
 frame (TheFrame.Body b x A) = at_body b x (part_of A)
@@ -25,7 +25,7 @@ abbrev pub newest : {A : Type 0} → List A → List A → List A
 newest K [] = K
 newest K (f ∷ fs) = newest (f ∷ K) fs
 
-abbrev pub state_of : List (Frame Part) → TheState → State Part
+abbrev pub state_of : List (Frame Subtree) → TheState → State Subtree
 state_of K TheState.Begin = begin K
 state_of K (TheState.Binder b) = binder b K
 state_of K (TheState.BinderSign b x) = binder_sign b x K
@@ -33,14 +33,14 @@ state_of K TheState.LetName = let_name K
 state_of K (TheState.LetSign x) = let_sign x K
 state_of K (TheState.After f) = after K (part_of f)
 
-abbrev pub move_of : List (Frame Part) → TheMove → Move Part
+abbrev pub move_of : List (Frame Subtree) → TheMove → Move Subtree
 move_of K (TheMove.Go S) = go (state_of K S)
 move_of K (TheMove.Stay T) = stay (part_of T)
 move_of K (TheMove.Fail k) = fail k
 move_of K TheMove.Deep = deep
 
 -- A whole part, in a wider term or in a construct that needs a token.
-abbrev pub closing_around : List (Frame Part) → Around → Token → Move Part
+abbrev pub closing_around : List (Frame Subtree) → Around → Token → Move Subtree
 closing_around K (Around.Wider T) t = closing parts K (part_of T) t
 closing_around K (Around.Bracket f T) t = closing parts (frame f ∷ K) (part_of T) t
 
@@ -52,7 +52,7 @@ is_around (Around.Bracket f T) = is_bracket (frame f)
 abbrev pub more : ℕ → Bool
 more n = nat_lt n 2000
 
-abbrev pub outcome_of : List Spot → Parsed → Outcome Part
+abbrev pub outcome_of : List Spot → Parsed → ParseOutcome Subtree
 outcome_of ts (Parsed.Read T n) = read (part_of T) (drop n ts)
 outcome_of ts (Parsed.Expected p k) = expected p k
 outcome_of ts (Parsed.TooDeep p) = too_deep p

@@ -19,24 +19,24 @@ abbrev pub syntax_of : Tree → Syntax
 syntax_of = fold-Tree Syntax tree_step
 
 -- A part of a term as the parser keeps it: the syntax, if it is at most 2,000 deep.
-abbrev pub Part : Type 0
-Part = Option Syntax
+abbrev pub Subtree : Type 0
+Subtree = Option Syntax
 
-abbrev pub within : Syntax → Part
+abbrev pub within : Syntax → Subtree
 within T = if nat_le (depth_of T) 2000 then Some T else None
 
-abbrev pub with_two : (Syntax → Syntax → Syntax) → Part → Part → Part
+abbrev pub with_two : (Syntax → Syntax → Syntax) → Subtree → Subtree → Subtree
 with_two f (Some T) (Some U) = within (f T U)
 with_two f (Some T) None = None
 with_two f None U = None
 
-abbrev pub with_three : (Syntax → Syntax → Syntax → Syntax) → Part → Part → Part → Part
+abbrev pub with_three : (Syntax → Syntax → Syntax → Syntax) → Subtree → Subtree → Subtree → Subtree
 with_three f (Some T) (Some U) (Some V) = within (f T U V)
 with_three f (Some T) (Some U) None = None
 with_three f (Some T) None V = None
 with_three f None U V = None
 
-abbrev pub parts : Build Part
+abbrev pub parts : Build Subtree
 parts = record {
   of_sort = λ p s. Some (sort p s);
   of_name = λ p x. Some (name p x);
@@ -46,5 +46,5 @@ parts = record {
 }
 
 -- A part of the program.
-abbrev pub part_of : Option Tree → Part
+abbrev pub part_of : Option Tree → Subtree
 part_of = option_map syntax_of

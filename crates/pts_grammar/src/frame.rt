@@ -1,4 +1,4 @@
-use crate::part::Part;
+use crate::part::Subtree;
 use pts_names::Name;
 
 /// What binds a name that has a type only.
@@ -12,14 +12,14 @@ pub(crate) enum Binder {
 #[derive(Debug, Drop)]
 pub(crate) enum Frame {
     /// A parenthesis, perhaps with the function before it.
-    Parens(Option<Part>),
+    Parens(Option<Subtree>),
     /// What a binder binds, at its type and at its body.
     Type(Binder, Name),
-    Body(Binder, Name, Part),
+    Body(Binder, Name, Subtree),
     /// A local definition, at the definition, at its type and at its body.
     LetValue(Name),
-    LetType(Name, Part),
-    LetBody(Name, Part, Part),
+    LetType(Name, Subtree),
+    LetBody(Name, Subtree, Subtree),
     /// A product behind its arrow.
-    Arrow(Part),
+    Arrow(Subtree),
 }

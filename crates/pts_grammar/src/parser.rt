@@ -10,7 +10,7 @@ ghost use Rattle.pts_grammar.specs.Open.{frame, state_of, move_of, closing_aroun
 
 use crate::frame::{Binder, Frame};
 use crate::kind::Kind;
-use crate::part::Part;
+use crate::part::Subtree;
 use crate::stack::Stack;
 use crate::state::{Around, Move, State};
 use crate::tree::Tree;
@@ -126,8 +126,8 @@ fn first(stack: &mut Stack, place: usize, next: &Token) -> Result<Move, AllocErr
         Token::Lambda => Ok(Move::Go(State::Binder(Binder::Lam))),
         Token::At => Ok(Move::Go(State::Binder(Binder::Pi))),
         Token::Let => Ok(Move::Go(State::LetName)),
-        Token::Sort(spelling) => Ok(Move::Go(State::After(Part::sort(place, spelling.copy()?)))),
-        Token::Name(name) => Ok(Move::Go(State::After(Part::name(place, name.copy()?)))),
+        Token::Sort(spelling) => Ok(Move::Go(State::After(Subtree::sort(place, spelling.copy()?)))),
+        Token::Name(name) => Ok(Move::Go(State::After(Subtree::name(place, name.copy()?)))),
         Token::Open => open(stack, None),
         _ => Ok(Move::Fail(Kind::Term)),
     }
@@ -137,7 +137,7 @@ fn first(stack: &mut Stack, place: usize, next: &Token) -> Result<Move, AllocErr
 fn further(
     alloc: Global,
     stack: &mut Stack,
-    function: Part,
+    function: Subtree,
     place: usize,
     next: &Token,
 ) -> Result<Move, AllocError>
@@ -145,12 +145,12 @@ fn further(
 {
     match next {
         Token::Sort(spelling) => {
-            let argument = Part::sort(place, spelling.copy()?);
-            Ok(Move::Go(State::After(Part::applied(alloc, function, argument)?)))
+            let argument = Subtree::sort(place, spelling.copy()?);
+            Ok(Move::Go(State::After(Subtree::applied(alloc, function, argument)?)))
         }
         Token::Name(name) => {
-            let argument = Part::name(place, name.copy()?);
-            Ok(Move::Go(State::After(Part::applied(alloc, function, argument)?)))
+            let argument = Subtree::name(place, name.copy()?);
+            Ok(Move::Go(State::After(Subtree::applied(alloc, function, argument)?)))
         }
         Token::Open => open(stack, Some(function)),
         Token::Arrow => {
@@ -162,7 +162,7 @@ fn further(
 }
 
 /// Opens a parenthesis, perhaps behind a function, if another one may be open.
-fn open(stack: &mut Stack, function: Option<Part>) -> Result<Move, AllocError>
+fn open(stack: &mut Stack, function: Option<Subtree>) -> Result<Move, AllocError>
     ensures { IfOk result (λ m. move_of (map frame stack.new) m ≡ machine.opening parts more (option_map part_of function) (map frame stack.old)) }
 {
     if stack.parens() >= 2000 {
@@ -173,7 +173,7 @@ fn open(stack: &mut Stack, function: Option<Part>) -> Result<Move, AllocError>
 }
 
 /// What a token does behind a whole term.
-fn close(alloc: Global, stack: &mut Stack, whole: Part, next: &Token) -> Result<Move, AllocError>
+fn close(alloc: Global, stack: &mut Stack, whole: Subtree, next: &Token) -> Result<Move, AllocError>
     ensures { IfOk result (λ m. move_of (map frame stack.new) m ≡ machine.closing parts (map frame stack.old) (part_of whole) next.now) }
 {
     let mut built = whole;
@@ -191,18 +191,18 @@ fn close(alloc: Global, stack: &mut Stack, whole: Part, next: &Token) -> Result<
 }
 
 /// The term that ends with this whole part, if the construct is one that ends so.
-fn widen(alloc: Global, last: Frame, whole: Part) -> Result<Around, AllocError>
+fn widen(alloc: Global, last: Frame, whole: Subtree) -> Result<Around, AllocError>
     ensures same { IfOk result (λ a. (K : List (TheFrame (Option Syntax))) (t : TheToken) → closing_around K a t ≡ machine.closing parts (frame last ∷ K) (part_of whole) t) }
     ensures bracket { IfOk result (λ a. is_around a ≡ true) }
 {
     match last {
-        Frame::Body(binder, name, domain) => Ok(Around::Wider(Part::bound(
+        Frame::Body(binder, name, domain) => Ok(Around::Wider(Subtree::bound(
             alloc, binder, name, domain, whole,
         )?)),
-        Frame::LetBody(name, definition, ty) => Ok(Around::Wider(Part::defined(
+        Frame::LetBody(name, definition, ty) => Ok(Around::Wider(Subtree::defined(
             alloc, name, definition, ty, whole,
         )?)),
-        Frame::Arrow(domain) => Ok(Around::Wider(Part::arrow(alloc, domain, whole)?)),
+        Frame::Arrow(domain) => Ok(Around::Wider(Subtree::arrow(alloc, domain, whole)?)),
         bracket => Ok(Around::Bracket(bracket, whole)),
     }
 }
@@ -212,7 +212,7 @@ fn bracket(
     alloc: Global,
     stack: &mut Stack,
     last: Frame,
-    whole: Part,
+    whole: Subtree,
     next: &Token,
 ) -> Result<Move, AllocError>
     requires { is_bracket (frame last) ≡ true }
@@ -243,11 +243,11 @@ fn bracket(
 }
 
 /// The argument of a function, if there is one.
-fn applied(alloc: Global, function: Option<Part>, argument: Part) -> Result<Part, AllocError>
+fn applied(alloc: Global, function: Option<Subtree>, argument: Subtree) -> Result<Subtree, AllocError>
     ensures { IfOk result (λ p. part_of p ≡ applied_to parts (option_map part_of function) (part_of argument)) }
 {
     match function {
         None => Ok(argument),
-        Some(f) => Part::applied(alloc, f, argument),
+        Some(f) => Subtree::applied(alloc, f, argument),
     }
 }

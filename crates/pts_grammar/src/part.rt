@@ -17,12 +17,12 @@ const DEEPEST: u32 = 2000;
 /// A part of a term: its tree with its depth, or no tree where it is deeper than 2,000. So the parser goes on through a
 /// text that nests too deep, and holds no tree that is. Contracts see the tree.
 #[derive(Debug, Drop)]
-pub(crate) struct Part {
+pub(crate) struct Subtree {
     tree: Option<Tree>,
     depth: u32,
 }
 
-impl Model for Part {
+impl Model for Subtree {
     ghost use Rattle.std.specs.Prelude.{◌≡◌, ◌≤◌, Option, MatchOption, ⊤};
     ghost use Rattle.std.specs.Coded.{codes};
     ghost use Rattle.pts_grammar.specs.declared.tree.Tree.{Tree};
@@ -39,49 +39,49 @@ impl Model for Part {
     ghost invariant = { λ p. MatchOption p.tree ⊤ (λ t. (depth_of (syntax_of t) ≡ p.depth) × (p.depth ≤ 2000)) };
 }
 
-impl Part {
+impl Subtree {
     /// A sort.
-    pub(crate) fn sort(place: usize, spelling: SortName) -> Part
+    pub(crate) fn sort(place: usize, spelling: SortName) -> Subtree
         ensures { part_of result ≡ parts.of_sort place spelling }
     {
-        Part {
+        Subtree {
             tree: Some(Tree::Sort(place, spelling)),
             depth: 1,
         }
     }
 
     /// A name.
-    pub(crate) fn name(place: usize, name: Name) -> Part
+    pub(crate) fn name(place: usize, name: Name) -> Subtree
         ensures { part_of result ≡ parts.of_name place name }
     {
-        Part {
+        Subtree {
             tree: Some(Tree::Named(place, name)),
             depth: 1,
         }
     }
 
     /// A part that is too deep.
-    fn deep() -> Part
+    fn deep() -> Subtree
         ensures { result ≡ None }
     {
-        Part {
+        Subtree {
             tree: None,
             depth: DEEPEST,
         }
     }
 
     /// A function applied to an argument.
-    pub(crate) fn applied(alloc: Global, function: Part, argument: Part) -> Result<Part, AllocError>
+    pub(crate) fn applied(alloc: Global, function: Subtree, argument: Subtree) -> Result<Subtree, AllocError>
         ensures { IfOk result (λ p. part_of p ≡ parts.applied (part_of function) (part_of argument)) }
     {
         let depth = function.depth.max(argument.depth);
         let (Some(f), Some(a)) = (function.tree, argument.tree) else {
-            return Ok(Part::deep());
+            return Ok(Subtree::deep());
         };
         if depth >= DEEPEST {
-            return Ok(Part::deep());
+            return Ok(Subtree::deep());
         }
-        Ok(Part {
+        Ok(Subtree {
             tree: Some(Tree::App(Boxed::new(alloc, f)?, Boxed::new(alloc, a)?)),
             depth: depth + 1,
         })
@@ -92,35 +92,35 @@ impl Part {
         alloc: Global,
         binder: Binder,
         name: Name,
-        domain: Part,
-        body: Part,
-    ) -> Result<Part, AllocError>
+        domain: Subtree,
+        body: Subtree,
+    ) -> Result<Subtree, AllocError>
         ensures { IfOk result (λ p. part_of p ≡ parts.bound binder name (part_of domain) (part_of body)) }
     {
         let depth = domain.depth.max(body.depth);
         let (Some(a), Some(b)) = (domain.tree, body.tree) else {
-            return Ok(Part::deep());
+            return Ok(Subtree::deep());
         };
         if depth >= DEEPEST {
-            return Ok(Part::deep());
+            return Ok(Subtree::deep());
         }
         let (a, b) = (Boxed::new(alloc, a)?, Boxed::new(alloc, b)?);
         let tree = match binder {
             Binder::Lam => Tree::Lam(name, a, b),
             Binder::Pi => Tree::Pi(name, a, b),
         };
-        Ok(Part {
+        Ok(Subtree {
             tree: Some(tree),
             depth: depth + 1,
         })
     }
 
     /// A product that is written with an arrow.
-    pub(crate) fn arrow(alloc: Global, domain: Part, body: Part) -> Result<Part, AllocError>
+    pub(crate) fn arrow(alloc: Global, domain: Subtree, body: Subtree) -> Result<Subtree, AllocError>
         ensures { IfOk result (λ p. part_of p ≡ parts.bound Pi underscore (part_of domain) (part_of body)) }
     {
         match Name::read(alloc, "_") {
-            Ok(name) => Part::bound(alloc, Binder::Pi, name, domain, body),
+            Ok(name) => Subtree::bound(alloc, Binder::Pi, name, domain, body),
             Err(fault) => match fault {
                 NameFault::Memory => Err(AllocError),
                 _ => unreachable!(),
@@ -132,26 +132,26 @@ impl Part {
     pub(crate) fn defined(
         alloc: Global,
         name: Name,
-        definition: Part,
-        ty: Part,
-        body: Part,
-    ) -> Result<Part, AllocError>
+        definition: Subtree,
+        ty: Subtree,
+        body: Subtree,
+    ) -> Result<Subtree, AllocError>
         ensures { IfOk result (λ p. part_of p ≡ parts.defined name (part_of definition) (part_of ty) (part_of body)) }
     {
         let depth = definition.depth.max(ty.depth).max(body.depth);
         let trees = three(definition.into_tree(), ty.into_tree(), body.into_tree());
         let Some((d, a, b)) = trees else {
-            return Ok(Part::deep());
+            return Ok(Subtree::deep());
         };
         if depth >= DEEPEST {
-            return Ok(Part::deep());
+            return Ok(Subtree::deep());
         }
         let (d, a, b) = (
             Boxed::new(alloc, d)?,
             Boxed::new(alloc, a)?,
             Boxed::new(alloc, b)?,
         );
-        Ok(Part {
+        Ok(Subtree {
             tree: Some(Tree::Let(name, d, a, b)),
             depth: depth + 1,
         })

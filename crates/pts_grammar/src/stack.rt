@@ -4,7 +4,7 @@ ghost use Rattle.pts_grammar.specs.Machine.{opened};
 ghost use Rattle.pts_grammar.specs.Open.{frame};
 
 use crate::frame::Frame;
-use crate::part::Part;
+use crate::part::Subtree;
 use std::alloc::{AllocFailed, Global};
 use std::marker::Model;
 
@@ -61,7 +61,7 @@ impl Stack {
 
     /// Opens a parenthesis, perhaps behind a function.
     #[tactic(auto, using(crate::proofs::Stacks::newest_more, crate::proofs::Stacks::opened_more))]
-    pub(crate) fn open(&mut self, function: Option<Part>) -> Result<(), AllocFailed<Frame>>
+    pub(crate) fn open(&mut self, function: Option<Subtree>) -> Result<(), AllocFailed<Frame>>
         requires { opened (map frame self.old) < 2000 }
         ensures { OnOk result (self.new ≡ Frame.Parens function ∷ self.old) }
     {

@@ -1,6 +1,6 @@
 use crate::frame::{Binder, Frame};
 use crate::kind::Kind;
-use crate::part::Part;
+use crate::part::Subtree;
 use pts_names::Name;
 
 /// Where the reading is, beside the constructs that are open.
@@ -15,7 +15,7 @@ pub(crate) enum State {
     LetName,
     LetSign(Name),
     /// Behind an application that may go on.
-    After(Part),
+    After(Subtree),
 }
 
 /// What a token does.
@@ -24,7 +24,7 @@ pub(crate) enum Move {
     /// The reading goes on.
     Go(State),
     /// The token stands behind this whole term, and nothing is open.
-    Stay(Part),
+    Stay(Subtree),
     /// Another kind of token must stand here.
     Fail(Kind),
     /// One parenthesis is open too many.
@@ -34,6 +34,6 @@ pub(crate) enum Move {
 /// A whole part: in a term that ends with it, or in a construct that needs a token behind it.
 #[derive(Debug, Drop)]
 pub(crate) enum Around {
-    Wider(Part),
-    Bracket(Frame, Part),
+    Wider(Subtree),
+    Bracket(Frame, Subtree),
 }

@@ -13,7 +13,7 @@ use Rattle.pts_record.specs.declared.shape.Node.{Node}
 use Rattle.pts_record.specs.declared.shape.RecordFault.{RecordFault}
 use Rattle.pts_record.specs.declared.shape.RecordFault.TheVariants.{Link, TooLarge}
 use Rattle.pts_record.specs.Table.{Tables, values_behind, named_at, named_trees, bare_trees, bare_at, NodesLinked, unfold_shape, the_name, no_name, term_fault, first_wrong, or_wrong, fields_before, shape_links}
-use Rattle.pts_record.specs.Said.{line_of, lines_of, named_lines_of, look, say, say_as, said_behind, told, named_told}
+use Rattle.pts_record.specs.Said.{row_of_node, rows_of, named_lines_of, look, say, say_as, said_behind, told, named_told}
 use Rattle.pts_record.proofs.Parts.{below_kept, front_kept, named_kept, named_new}
 use Rattle.pts_record.proofs.Trees.{bare_behind, unfold_bare, bare_of_named}
 use Rattle.pts_record.proofs.Looked.{said_length, said_parts, said_stays, look_at}
@@ -80,13 +80,13 @@ term_new r s = (omega (arith, length-append r.shapes (s ∷ [])), named_new r.sh
 abbrev pub with_node : Tables → Node → Tables
 with_node r n = record { shapes = r.shapes; nodes = r.nodes ++ n ∷ [] }
 
-named_push : (r : Tables) (n : Node) → said_behind [] (named_lines_of (with_node r n)) ≡ said_behind [] (named_lines_of r) ++ say (said_behind [] (named_lines_of r)) (line_of (named_trees r.shapes) n) ∷ []
+named_push : (r : Tables) (n : Node) → said_behind [] (named_lines_of (with_node r n)) ≡ said_behind [] (named_lines_of r) ++ say (said_behind [] (named_lines_of r)) (row_of_node (named_trees r.shapes) n) ∷ []
 named_push r n =
-    ap (said_behind []) (map-append (line_of (named_trees r.shapes)) r.nodes (n ∷ []))
-    ∙ said_parts [] (named_lines_of r) (line_of (named_trees r.shapes) n ∷ [])
+    ap (said_behind []) (map-append (row_of_node (named_trees r.shapes)) r.nodes (n ∷ []))
+    ∙ said_parts [] (named_lines_of r) (row_of_node (named_trees r.shapes) n ∷ [])
 
 named_long : (r : Tables) → length (said_behind [] (named_lines_of r)) ≡ length r.nodes
-named_long r = said_length [] (named_lines_of r) ∙ omega (arith, length-map r.nodes (line_of (named_trees r.shapes)))
+named_long r = said_length [] (named_lines_of r) ∙ omega (arith, length-map r.nodes (row_of_node (named_trees r.shapes)))
 
 pub keeps_node : (r : Tables) (n : Node) → Keeps r (with_node r n)
 unfolding named_told
@@ -95,14 +95,14 @@ keeps_node r n = record {
   nodes = take-append_seam r.nodes (n ∷ []);
   says = λ k h.
       ap (λ ms. look ms k) (named_push r n)
-      ∙ said_stays (said_behind [] (named_lines_of r)) (line_of (named_trees r.shapes) n ∷ []) k (omega (arith, h, named_long r));
+      ∙ said_stays (said_behind [] (named_lines_of r)) (row_of_node (named_trees r.shapes) n ∷ []) k (omega (arith, h, named_long r));
 }
 
-pub node_new : (r : Tables) (n : Node) → IsNode (with_node r n) (length r.nodes) (say_as n.form (length r.nodes) (line_of (named_trees r.shapes) n) (named_told r n.ctx) (named_told r n.first))
+pub node_new : (r : Tables) (n : Node) → IsNode (with_node r n) (length r.nodes) (say_as n.form (length r.nodes) (row_of_node (named_trees r.shapes) n) (named_told r n.ctx) (named_told r n.first))
 unfolding named_told
 node_new r n =
     let all = said_behind [] (named_lines_of r) in
-    let line = line_of (named_trees r.shapes) n in (
+    let line = row_of_node (named_trees r.shapes) n in (
       omega (arith, length-append r.nodes (n ∷ [])),
       ap (λ ms. look ms (length r.nodes)) (named_push r n)
           ∙ ap (look (all ++ say all line ∷ [])) (sym (named_long r))
@@ -116,11 +116,11 @@ faultless_push S G ms (k ∷ ls) l v h =
     let (p, q) = faultless S G ms k ls v in
     rw p (faultless_push S G (ms ++ say ms k ∷ []) ls l q h)
 
-pub valid_node : (r : Tables) (n : Node) (S : Specification) (G : Front) → form_fault S G n.form (line_of (bare_trees r.shapes) n) (told r n.ctx) (told r n.first) (told r n.second) (told r n.third) ≡ None → IsValid S G r → IsValid S G (with_node r n)
+pub valid_node : (r : Tables) (n : Node) (S : Specification) (G : Front) → form_fault S G n.form (row_of_node (bare_trees r.shapes) n) (told r n.ctx) (told r n.first) (told r n.second) (told r n.third) ≡ None → IsValid S G r → IsValid S G (with_node r n)
 unfolding first_fault told
 valid_node r n S G h v =
     ap (first_fault_behind S G []) (lines_push r.shapes r.nodes n)
-    ∙ faultless_push S G [] (lines_of r) (line_of (bare_trees r.shapes) n) v h
+    ∙ faultless_push S G [] (rows_of r) (row_of_node (bare_trees r.shapes) n) v h
 
 pub ruleset grown = (keeps_term, valid_term, term_new, keeps_node, node_new, valid_node)
 
@@ -178,10 +178,10 @@ pub ruleset lines = (line_keeps, line_valid, line_term, line_fits, line_large, s
 pub node_keeps : (r q : Tables) (n : Node) → q ≡ with_node r n → Keeps r q
 node_keeps r q n e = rw e (keeps_node r n)
 
-pub node_says : (r q : Tables) (n : Node) (k : ℕ) → k ≡ length r.nodes → q ≡ with_node r n → IsNode q k (say_as n.form k (line_of (named_trees r.shapes) n) (named_told r n.ctx) (named_told r n.first))
+pub node_says : (r q : Tables) (n : Node) (k : ℕ) → k ≡ length r.nodes → q ≡ with_node r n → IsNode q k (say_as n.form k (row_of_node (named_trees r.shapes) n) (named_told r n.ctx) (named_told r n.first))
 node_says r q n k h e = rw (h, e) (node_new r n)
 
-pub node_valid : (r q : Tables) (n : Node) (S : Specification) (G : Front) → q ≡ with_node r n → form_fault S G n.form (line_of (bare_trees r.shapes) n) (told r n.ctx) (told r n.first) (told r n.second) (told r n.third) ≡ None → IsValid S G r → IsValid S G q
+pub node_valid : (r q : Tables) (n : Node) (S : Specification) (G : Front) → q ≡ with_node r n → form_fault S G n.form (row_of_node (bare_trees r.shapes) n) (told r n.ctx) (told r n.first) (told r n.second) (told r n.third) ≡ None → IsValid S G r → IsValid S G q
 node_valid r q n S G e h v = rw e (valid_node r n S G h v)
 
 pub ruleset pushed = (node_keeps, node_says, node_valid, same_keeps, same_valid)

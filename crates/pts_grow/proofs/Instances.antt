@@ -8,7 +8,7 @@ use Rattle.pts_ctx.specs.System.{Specification}
 use Rattle.pts_ctx.specs.Front.{Global, Front, bare_front, unknown}
 use Rattle.pts_record.specs.declared.shape.Form.TheVariants.{Bare as BareForm, Same, Left, Right, CongApp, CongLam, CongPi}
 use Rattle.pts_record.specs.Table.{Tables, named_at, bare_at, bare_trees}
-use Rattle.pts_record.specs.Said.{Said, Scope, nothing, context, judgement, comparison, scope_of, longer, by_bare, line_of, told, named_told, bare_local, bare_scope, bare_said, is_context}
+use Rattle.pts_record.specs.Said.{Said, Scope, nothing, context, judgement, comparison, scope_of, longer, by_bare, row_of_node, told, named_told, bare_local, bare_scope, bare_said, is_context}
 use Rattle.pts_record.proofs.Named.{told_bare, scope_bare}
 use Rattle.pts_record.proofs.Trees.{bare_of_named}
 use Rattle.pts_rules.specs.declared.why.Why.{Why}
@@ -76,12 +76,12 @@ module _ (r : Tables) (c : ℕ) (k : is_context (named_told r c) ≡ true) where
   entries_bare = ap (λ m. (scope_of m).entries) (told_bare r c) ∙ ap (λ s. s.entries) (scope_bare (named_told r c))
 
   module _ (S : Specification) where
-    pub bare_ok : (G : Front) → form_fault S G BareForm (line_of (bare_trees r.shapes) (record { form = BareForm; ctx = c; subject = 0; claim = 0; first = 0; second = 0; third = 0 })) (told r c) (told r 0) (told r 0) (told r 0) ≡ None
+    pub bare_ok : (G : Front) → form_fault S G BareForm (row_of_node (bare_trees r.shapes) (record { form = BareForm; ctx = c; subject = 0; claim = 0; first = 0; second = 0; third = 0 })) (told r c) (told r 0) (told r 0) (told r 0) ≡ None
     bare_ok G = none_fails (bare_conditions (told r c)) (typed, tt)
 
-    pub same_ok : (G : Front) (left right : ℕ) → same_term (bare_at r.shapes left) (bare_at r.shapes right) ≡ true → form_fault S G Same (line_of (bare_trees r.shapes) (record { form = Same; ctx = c; subject = left; claim = right; first = 0; second = 0; third = 0 })) (told r c) (told r 0) (told r 0) (told r 0) ≡ None
+    pub same_ok : (G : Front) (left right : ℕ) → same_term (bare_at r.shapes left) (bare_at r.shapes right) ≡ true → form_fault S G Same (row_of_node (bare_trees r.shapes) (record { form = Same; ctx = c; subject = left; claim = right; first = 0; second = 0; third = 0 })) (told r c) (told r 0) (told r 0) (told r 0) ≡ None
     same_ok G left right h =
-        let l = line_of (bare_trees r.shapes) (record { form = Same; ctx = c; subject = left; claim = right; first = 0; second = 0; third = 0 }) in
+        let l = row_of_node (bare_trees r.shapes) (record { form = Same; ctx = c; subject = left; claim = right; first = 0; second = 0; third = 0 }) in
         none_fails (same_conditions l (told r c)) (typed, (h, tt))
 
     -- the step without printed names
@@ -94,25 +94,25 @@ module _ (r : Tables) (c : ℕ) (k : is_context (named_told r c) ≡ true) where
         ∙ ap (option_map bare) h ∙ ap Some (bare_of_named r.shapes u) in
         ap (is_that (bare_at r.shapes u)) e ∙ same_term_self (bare_at r.shapes u)
 
-    pub left_ok : (G : List (Global Name)) (left : ℕ) (p : Compared) → Compares r c p → head_step G (scope_of (named_told r c)).entries (named_at r.shapes left) ≡ Some (named_at r.shapes p.left) → form_fault S (bare_front G) Left (line_of (bare_trees r.shapes) (record { form = Left; ctx = c; subject = left; claim = p.right; first = p.node; second = 0; third = 0 })) (told r c) (told r p.node) (told r 0) (told r 0) ≡ None
+    pub left_ok : (G : List (Global Name)) (left : ℕ) (p : Compared) → Compares r c p → head_step G (scope_of (named_told r c)).entries (named_at r.shapes left) ≡ Some (named_at r.shapes p.left) → form_fault S (bare_front G) Left (row_of_node (bare_trees r.shapes) (record { form = Left; ctx = c; subject = left; claim = p.right; first = p.node; second = 0; third = 0 })) (told r c) (told r p.node) (told r 0) (told r 0) ≡ None
     left_ok G left p q h =
-        let l = line_of (bare_trees r.shapes) (record { form = Left; ctx = c; subject = left; claim = p.right; first = p.node; second = 0; third = 0 }) in
+        let l = row_of_node (bare_trees r.shapes) (record { form = Left; ctx = c; subject = left; claim = p.right; first = p.node; second = 0; third = 0 }) in
         let e = compared_bare r c p q in
         let tests : AllPass (left_conditions (bare_front G) l (told r c) (comparison c (bare_scope (scope_of (named_told r c))) (bare_at r.shapes p.left) (bare_at r.shapes p.right))) =
         (typed, (refl, (nat_eq_self c, (same_term_self (bare_at r.shapes p.right), (stepped G left p.left h, tt))))) in
         rw e (none_fails (left_conditions (bare_front G) l (told r c) (comparison c (bare_scope (scope_of (named_told r c))) (bare_at r.shapes p.left) (bare_at r.shapes p.right))) tests)
 
-    pub right_ok : (G : List (Global Name)) (right : ℕ) (p : Compared) → Compares r c p → head_step G (scope_of (named_told r c)).entries (named_at r.shapes right) ≡ Some (named_at r.shapes p.right) → form_fault S (bare_front G) Right (line_of (bare_trees r.shapes) (record { form = Right; ctx = c; subject = p.left; claim = right; first = p.node; second = 0; third = 0 })) (told r c) (told r p.node) (told r 0) (told r 0) ≡ None
+    pub right_ok : (G : List (Global Name)) (right : ℕ) (p : Compared) → Compares r c p → head_step G (scope_of (named_told r c)).entries (named_at r.shapes right) ≡ Some (named_at r.shapes p.right) → form_fault S (bare_front G) Right (row_of_node (bare_trees r.shapes) (record { form = Right; ctx = c; subject = p.left; claim = right; first = p.node; second = 0; third = 0 })) (told r c) (told r p.node) (told r 0) (told r 0) ≡ None
     right_ok G right p q h =
-        let l = line_of (bare_trees r.shapes) (record { form = Right; ctx = c; subject = p.left; claim = right; first = p.node; second = 0; third = 0 }) in
+        let l = row_of_node (bare_trees r.shapes) (record { form = Right; ctx = c; subject = p.left; claim = right; first = p.node; second = 0; third = 0 }) in
         let e = compared_bare r c p q in
         let tests : AllPass (right_conditions (bare_front G) l (told r c) (comparison c (bare_scope (scope_of (named_told r c))) (bare_at r.shapes p.left) (bare_at r.shapes p.right))) =
         (typed, (refl, (nat_eq_self c, (same_term_self (bare_at r.shapes p.left), (stepped G right p.right h, tt))))) in
         rw e (none_fails (right_conditions (bare_front G) l (told r c) (comparison c (bare_scope (scope_of (named_told r c))) (bare_at r.shapes p.left) (bare_at r.shapes p.right))) tests)
 
-    pub capp_ok : (G : Front) (left right : ℕ) (p q : Compared) → Compares r c p → Compares r c q → bare_at r.shapes left ≡ app (bare_at r.shapes p.left) (bare_at r.shapes q.left) → bare_at r.shapes right ≡ app (bare_at r.shapes p.right) (bare_at r.shapes q.right) → form_fault S G CongApp (line_of (bare_trees r.shapes) (record { form = CongApp; ctx = c; subject = left; claim = right; first = p.node; second = q.node; third = 0 })) (told r c) (told r p.node) (told r q.node) (told r 0) ≡ None
+    pub capp_ok : (G : Front) (left right : ℕ) (p q : Compared) → Compares r c p → Compares r c q → bare_at r.shapes left ≡ app (bare_at r.shapes p.left) (bare_at r.shapes q.left) → bare_at r.shapes right ≡ app (bare_at r.shapes p.right) (bare_at r.shapes q.right) → form_fault S G CongApp (row_of_node (bare_trees r.shapes) (record { form = CongApp; ctx = c; subject = left; claim = right; first = p.node; second = q.node; third = 0 })) (told r c) (told r p.node) (told r q.node) (told r 0) ≡ None
     capp_ok G left right p q h g a b =
-        let l = line_of (bare_trees r.shapes) (record { form = CongApp; ctx = c; subject = left; claim = right; first = p.node; second = q.node; third = 0 }) in
+        let l = row_of_node (bare_trees r.shapes) (record { form = CongApp; ctx = c; subject = left; claim = right; first = p.node; second = q.node; third = 0 }) in
         let m = comparison c (bare_scope (scope_of (named_told r c))) (bare_at r.shapes p.left) (bare_at r.shapes p.right) in
         let n = comparison c (bare_scope (scope_of (named_told r c))) (bare_at r.shapes q.left) (bare_at r.shapes q.right) in
         let kinds : AllPass (comparison_kinds (told r c) m n) = (typed, (refl, (refl, tt))) in
@@ -130,9 +130,9 @@ module _ (r : Tables) (c : ℕ) (k : is_context (named_told r c) ≡ true) where
       made : (scope_of (named_told r i)).made ≡ by_bare c
       made = ap (λ m. (scope_of m).made) n.1
 
-      pub clam_ok : (G : Front) → bare_at r.shapes left ≡ lam (bare_at r.shapes p.left) (bare_at r.shapes q.left) → bare_at r.shapes right ≡ lam (bare_at r.shapes p.right) (bare_at r.shapes q.right) → form_fault S G CongLam (line_of (bare_trees r.shapes) (record { form = CongLam; ctx = c; subject = left; claim = right; first = p.node; second = q.node; third = 0 })) (told r c) (told r p.node) (told r q.node) (told r 0) ≡ None
+      pub clam_ok : (G : Front) → bare_at r.shapes left ≡ lam (bare_at r.shapes p.left) (bare_at r.shapes q.left) → bare_at r.shapes right ≡ lam (bare_at r.shapes p.right) (bare_at r.shapes q.right) → form_fault S G CongLam (row_of_node (bare_trees r.shapes) (record { form = CongLam; ctx = c; subject = left; claim = right; first = p.node; second = q.node; third = 0 })) (told r c) (told r p.node) (told r q.node) (told r 0) ≡ None
       clam_ok G a b =
-          let l = line_of (bare_trees r.shapes) (record { form = CongLam; ctx = c; subject = left; claim = right; first = p.node; second = q.node; third = 0 }) in
+          let l = row_of_node (bare_trees r.shapes) (record { form = CongLam; ctx = c; subject = left; claim = right; first = p.node; second = q.node; third = 0 }) in
           let m = comparison c (bare_scope (scope_of (named_told r c))) (bare_at r.shapes p.left) (bare_at r.shapes p.right) in
           let k = comparison i (bare_scope (scope_of (named_told r i))) (bare_at r.shapes q.left) (bare_at r.shapes q.right) in
           let kinds : AllPass (comparison_kinds (told r c) m k) = (typed, (refl, (refl, tt))) in
@@ -140,9 +140,9 @@ module _ (r : Tables) (c : ℕ) (k : is_context (named_told r c) ≡ true) where
           let terms : AllPass (clam_terms l m k) = (is_same a, (is_same b, tt)) in
           rw (compared_bare r c p h, inner) (all_in_order (comparison_kinds (told r c) m k) (binder_places l m k) (clam_terms l m k) kinds places terms)
 
-      pub cpi_ok : (G : Front) → bare_at r.shapes left ≡ pi (bare_at r.shapes p.left) (bare_at r.shapes q.left) → bare_at r.shapes right ≡ pi (bare_at r.shapes p.right) (bare_at r.shapes q.right) → form_fault S G CongPi (line_of (bare_trees r.shapes) (record { form = CongPi; ctx = c; subject = left; claim = right; first = p.node; second = q.node; third = 0 })) (told r c) (told r p.node) (told r q.node) (told r 0) ≡ None
+      pub cpi_ok : (G : Front) → bare_at r.shapes left ≡ pi (bare_at r.shapes p.left) (bare_at r.shapes q.left) → bare_at r.shapes right ≡ pi (bare_at r.shapes p.right) (bare_at r.shapes q.right) → form_fault S G CongPi (row_of_node (bare_trees r.shapes) (record { form = CongPi; ctx = c; subject = left; claim = right; first = p.node; second = q.node; third = 0 })) (told r c) (told r p.node) (told r q.node) (told r 0) ≡ None
       cpi_ok G a b =
-          let l = line_of (bare_trees r.shapes) (record { form = CongPi; ctx = c; subject = left; claim = right; first = p.node; second = q.node; third = 0 }) in
+          let l = row_of_node (bare_trees r.shapes) (record { form = CongPi; ctx = c; subject = left; claim = right; first = p.node; second = q.node; third = 0 }) in
           let m = comparison c (bare_scope (scope_of (named_told r c))) (bare_at r.shapes p.left) (bare_at r.shapes p.right) in
           let k = comparison i (bare_scope (scope_of (named_told r i))) (bare_at r.shapes q.left) (bare_at r.shapes q.right) in
           let kinds : AllPass (comparison_kinds (told r c) m k) = (typed, (refl, (refl, tt))) in

@@ -15,7 +15,7 @@ use Rattle.pts_grow.specs.Keeps.{Keeps, IsNode, Compares}
 use Rattle.pts_grow.proofs.Instances.{scope_at}
 use Rattle.pts_grow.proofs.Grow.{stays, node_stays, tree_stays, bare_stays, told_stays}
 use Rattle.pts_grow.specs.declared.judged.Judged.{Judged}
-use Rattle.pts_grow.specs.Judges.{IsTyped, Judges, IsAssumeOf, IsDefineOf, IsSort}
+use Rattle.pts_grow.specs.Judges.{IsTypedContext, Judges, IsAssumeOf, IsDefineOf, IsSort}
 
 -- What is judged stays so while the record grows.
 pub still_judges : (a b : Tables) (c : ℕ) (j : Judged) → Keeps a b → c < length a.nodes → Judges a c j → Judges b c j
@@ -26,7 +26,7 @@ still_judges a b c j g h q =
     let n = told_stays a b j.node g q.2.0 in
     (stays a b j.subject g q.0, stays a b j.claim g q.1, (node_stays a b j.node g q.2.0, rw (n, s, x, y) q.2.1))
 
-pub still_typed : (a b : Tables) (c : ℕ) → Keeps a b → c < length a.nodes → IsTyped a c → IsTyped b c
+pub still_typed : (a b : Tables) (c : ℕ) → Keeps a b → c < length a.nodes → IsTypedContext a c → IsTypedContext b c
 still_typed a b c g h q =
     let s = told_stays a b c g h in
     (rw s q.0, rw s q.1)
@@ -78,7 +78,7 @@ typed_bare (comparison c s t u) h k = absurd (cc h)
 abbrev pub judging : Tables → ℕ → Judged → Said (Unit {0})
 judging r c j = judgement c (scope_at r c) (bare_at r.shapes j.subject) (bare_at r.shapes j.claim)
 
-pub typed_at : (r : Tables) (c : ℕ) → IsTyped r c → is_typed_context (told r c) ≡ true
+pub typed_at : (r : Tables) (c : ℕ) → IsTypedContext r c → is_typed_context (told r c) ≡ true
 typed_at r c k = ap is_typed_context (told_bare r c) ∙ typed_bare (named_told r c) k.0 k.1
 
 pub scope_told : (r : Tables) (c : ℕ) → scope_of (told r c) ≡ scope_at r c

@@ -10,8 +10,8 @@ use Rattle.pts_grow.specs.Keeps.{IsNode}
 use Rattle.pts_grow.specs.declared.judged.Judged.{Judged}
 
 -- The node is a context without a bare entry.
-abbrev pub IsTyped : Tables → ℕ → Type 0
-IsTyped r c = (is_context (named_told r c) ≡ true) × (all_known (scope_of (named_told r c)).entries ≡ true)
+abbrev pub IsTypedContext : Tables → ℕ → Type 0
+IsTypedContext r c = (is_context (named_told r c) ≡ true) × (all_known (scope_of (named_told r c)).entries ≡ true)
 
 -- The two terms stand, and the node judges the first to have the second as its type, in the context with the number c.
 abbrev pub Judges : Tables → ℕ → Judged → Type 0

@@ -2,7 +2,7 @@
 
 ghost use Rattle.std.specs.Prelude.{◌≡◌, ◌<◌, length, IfOk};
 ghost use Rattle.pts_grow.specs.Keeps.{Keeps, StaysValid};
-ghost use Rattle.pts_grow.specs.Judges.{IsTyped, Judges, IsEmpty, IsAssumeOf, IsDefineOf, IsSort};
+ghost use Rattle.pts_grow.specs.Judges.{IsTypedContext, Judges, IsEmpty, IsAssumeOf, IsDefineOf, IsSort};
 
 use crate::Judged;
 use crate::push;
@@ -13,7 +13,7 @@ use std::alloc::AllocError;
 #[tactic(auto, using(crate::proofs::Longer::made))]
 pub fn add_empty(proof: &mut Record) -> Result<usize, AllocError>
     ensures empty { IfOk result (λ n. IsEmpty proof.new n) }
-    ensures typed { IfOk result (λ n. IsTyped proof.new n) }
+    ensures typed { IfOk result (λ n. IsTypedContext proof.new n) }
     ensures shapes { proof.new.shapes ≡ proof.old.shapes }
     ensures keeps { Keeps proof.old proof.new }
     ensures valid { StaysValid proof.old proof.new }
@@ -37,11 +37,11 @@ pub fn add_empty(proof: &mut Record) -> Result<usize, AllocError>
 #[tactic(auto, using(crate::proofs::Longer::made))]
 pub fn add_assume(proof: &mut Record, ctx: usize, ty: Judged) -> Result<usize, AllocError>
     requires ctx { ctx < length proof.old.nodes }
-    requires typed { IsTyped proof.old ctx }
+    requires typed { IsTypedContext proof.old ctx }
     requires ty { Judges proof.old ctx ty }
     requires sort { IsSort proof.old ty.claim }
     ensures assume { IfOk result (λ n. IsAssumeOf proof.new ctx ty n) }
-    ensures typed { IfOk result (λ n. IsTyped proof.new n) }
+    ensures typed { IfOk result (λ n. IsTypedContext proof.new n) }
     ensures shapes { proof.new.shapes ≡ proof.old.shapes }
     ensures keeps { Keeps proof.old proof.new }
     ensures valid { StaysValid proof.old proof.new }
@@ -65,10 +65,10 @@ pub fn add_assume(proof: &mut Record, ctx: usize, ty: Judged) -> Result<usize, A
 #[tactic(auto, using(crate::proofs::Longer::made))]
 pub fn add_define(proof: &mut Record, ctx: usize, body: Judged) -> Result<usize, AllocError>
     requires ctx { ctx < length proof.old.nodes }
-    requires typed { IsTyped proof.old ctx }
+    requires typed { IsTypedContext proof.old ctx }
     requires body { Judges proof.old ctx body }
     ensures define { IfOk result (λ n. IsDefineOf proof.new ctx body n) }
-    ensures typed { IfOk result (λ n. IsTyped proof.new n) }
+    ensures typed { IfOk result (λ n. IsTypedContext proof.new n) }
     ensures shapes { proof.new.shapes ≡ proof.old.shapes }
     ensures keeps { Keeps proof.old proof.new }
     ensures valid { StaysValid proof.old proof.new }

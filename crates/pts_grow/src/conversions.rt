@@ -5,7 +5,7 @@ ghost use Rattle.pts_terms.specs.Tree.{lift};
 ghost use Rattle.pts_record.specs.Table.{bare_at};
 ghost use Rattle.pts_record.specs.Said.{named_told, scope_of};
 ghost use Rattle.pts_grow.specs.Keeps.{Keeps, StaysValid, Compares};
-ghost use Rattle.pts_grow.specs.Judges.{IsTyped, Judges, IsSort};
+ghost use Rattle.pts_grow.specs.Judges.{IsTypedContext, Judges, IsSort};
 
 use crate::Judged;
 use crate::{Compared, push};
@@ -24,7 +24,7 @@ pub fn add_thin(
     by: u64,
 ) -> Result<Judged, AllocError>
     requires ctx { ctx < length proof.old.nodes }
-    requires typed { IsTyped proof.old ctx }
+    requires typed { IsTypedContext proof.old ctx }
     requires subject { subject < length proof.old.shapes }
     requires claim { claim < length proof.old.shapes }
     requires premise { Judges proof.old from premise }
@@ -67,7 +67,7 @@ pub fn add_again(
     premise: Judged,
 ) -> Result<Judged, AllocError>
     requires ctx { ctx < length proof.old.nodes }
-    requires typed { IsTyped proof.old ctx }
+    requires typed { IsTypedContext proof.old ctx }
     requires subject { subject < length proof.old.shapes }
     requires claim { claim < length proof.old.shapes }
     requires premise { Judges proof.old ctx premise }
@@ -95,7 +95,7 @@ pub fn add_conv(
     compared: Compared,
 ) -> Result<Judged, AllocError>
     requires ctx { ctx < length proof.old.nodes }
-    requires typed { IsTyped proof.old ctx }
+    requires typed { IsTypedContext proof.old ctx }
     requires subject { subject < length proof.old.shapes }
     requires claim { claim < length proof.old.shapes }
     requires judged { Judges proof.old ctx judged }

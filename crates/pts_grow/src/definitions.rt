@@ -4,7 +4,7 @@ ghost use Rattle.std.specs.Prelude.{◌≡◌, ◌<◌, length, IfOk};
 ghost use Rattle.pts_terms.specs.Tree.{let_in};
 ghost use Rattle.pts_record.specs.Table.{bare_at};
 ghost use Rattle.pts_grow.specs.Keeps.{Keeps, StaysValid};
-ghost use Rattle.pts_grow.specs.Judges.{IsTyped, Judges, IsDefineOf, IsSort};
+ghost use Rattle.pts_grow.specs.Judges.{IsTypedContext, Judges, IsDefineOf, IsSort};
 
 use crate::Judged;
 use crate::push;
@@ -23,7 +23,7 @@ pub fn add_letsort(
     body: Judged,
 ) -> Result<Judged, AllocError>
     requires ctx { ctx < length proof.old.nodes }
-    requires typed { IsTyped proof.old ctx }
+    requires typed { IsTypedContext proof.old ctx }
     requires subject { subject < length proof.old.shapes }
     requires claim { claim < length proof.old.shapes }
     requires inner { IsDefineOf proof.old ctx definition inner }
@@ -70,7 +70,7 @@ pub fn add_let(
     sorted: Judged,
 ) -> Result<Judged, AllocError>
     requires ctx { ctx < length proof.old.nodes }
-    requires typed { IsTyped proof.old ctx }
+    requires typed { IsTypedContext proof.old ctx }
     requires subject { subject < length proof.old.shapes }
     requires claim { claim < length proof.old.shapes }
     requires inner { IsDefineOf proof.old ctx definition inner }

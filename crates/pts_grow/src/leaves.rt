@@ -9,7 +9,7 @@ ghost use Rattle.pts_record.specs.Table.{named_at, bare_at};
 ghost use Rattle.pts_record.specs.Said.{named_told, scope_of};
 ghost use Rattle.pts_rules.specs.Valid.{IsValid};
 ghost use Rattle.pts_grow.specs.Keeps.{Keeps, StaysValid};
-ghost use Rattle.pts_grow.specs.Judges.{IsTyped, Judges, type_in, constant_type};
+ghost use Rattle.pts_grow.specs.Judges.{IsTypedContext, Judges, type_in, constant_type};
 
 use crate::Judged;
 use pts_ctx::{Context, System};
@@ -30,7 +30,7 @@ pub fn add_sort(
     above: Sort,
 ) -> Result<Judged, AllocError>
     requires ctx { ctx < length proof.old.nodes }
-    requires typed { IsTyped proof.old ctx }
+    requires typed { IsTypedContext proof.old ctx }
     requires subject { subject < length proof.old.shapes }
     requires claim { claim < length proof.old.shapes }
     requires sort { bare_at proof.old.shapes subject ≡ sort own.0 }
@@ -73,7 +73,7 @@ pub fn add_const(
     claim: usize,
 ) -> Result<Judged, AllocError>
     requires ctx { ctx < length proof.old.nodes }
-    requires typed { IsTyped proof.old ctx }
+    requires typed { IsTypedContext proof.old ctx }
     requires subject { subject < length proof.old.shapes }
     requires claim { claim < length proof.old.shapes }
     requires entry { constant_type front.now.entries (bare_at proof.old.shapes subject) ≡ Some (bare_at proof.old.shapes claim) }
@@ -114,7 +114,7 @@ pub fn add_var(
     ty: usize,
 ) -> Result<Judged, AllocError>
     requires ctx { ctx < length proof.old.nodes }
-    requires typed { IsTyped proof.old ctx }
+    requires typed { IsTypedContext proof.old ctx }
     requires subject { subject < length proof.old.shapes }
     requires claim { claim < length proof.old.shapes }
     requires variable { bare_at proof.old.shapes subject ≡ var index }

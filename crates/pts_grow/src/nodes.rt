@@ -4,7 +4,7 @@ ghost use Rattle.std.specs.Prelude.{◌≡◌, length, IfOk, None};
 ghost use Rattle.pts_ctx.specs.System.{Specification};
 ghost use Rattle.pts_ctx.specs.Front.{Front};
 ghost use Rattle.pts_record.specs.Table.{named_trees, bare_trees, AllBelow, node_links, term_links, kept_node};
-ghost use Rattle.pts_record.specs.Said.{named_told, told, say_as, line_of};
+ghost use Rattle.pts_record.specs.Said.{named_told, told, say_as, row_of_node};
 ghost use Rattle.pts_rules.specs.Conditions.{form_fault};
 ghost use Rattle.pts_rules.specs.Valid.{IsValid};
 ghost use Rattle.pts_grow.specs.Keeps.{Keeps, IsNode};
@@ -23,10 +23,10 @@ pub fn push(proof: &mut Record, node: Node) -> Result<usize, AllocError>
     requires links { AllBelow (length proof.old.nodes) (node_links node) }
     requires terms { AllBelow (length proof.old.shapes) (term_links node) }
     requires kept { kept_node node ≡ node }
-    ensures says { IfOk result (λ n. IsNode proof.new n (say_as node.form n (line_of (named_trees proof.old.shapes) node) (named_told proof.old node.ctx) (named_told proof.old node.first))) }
+    ensures says { IfOk result (λ n. IsNode proof.new n (say_as node.form n (row_of_node (named_trees proof.old.shapes) node) (named_told proof.old node.ctx) (named_told proof.old node.first))) }
     ensures shapes { proof.new.shapes ≡ proof.old.shapes }
     ensures keeps { Keeps proof.old proof.new }
-    ensures valid { (S : Specification) (G : Front) → form_fault S G node.form (line_of (bare_trees proof.old.shapes) node) (told proof.old node.ctx) (told proof.old node.first) (told proof.old node.second) (told proof.old node.third) ≡ None → IsValid S G proof.old → IsValid S G proof.new }
+    ensures valid { (S : Specification) (G : Front) → form_fault S G node.form (row_of_node (bare_trees proof.old.shapes) node) (told proof.old node.ctx) (told proof.old node.first) (told proof.old node.second) (told proof.old node.third) ≡ None → IsValid S G proof.old → IsValid S G proof.new }
 {
     if let Some(number) = proof.known_node(&node) {
         let _ = proof.node(number);

@@ -7,7 +7,7 @@ ghost use Rattle.pts_ctx.specs.Front.{Front};
 ghost use Rattle.pts_record.specs.Table.{bare_at};
 ghost use Rattle.pts_rules.specs.Valid.{IsValid};
 ghost use Rattle.pts_grow.specs.Keeps.{Keeps, StaysValid};
-ghost use Rattle.pts_grow.specs.Judges.{IsTyped, Judges, IsAssumeOf, IsSort};
+ghost use Rattle.pts_grow.specs.Judges.{IsTypedContext, Judges, IsAssumeOf, IsSort};
 
 use crate::{Judged, RuleSorts};
 use pts_ctx::System;
@@ -29,7 +29,7 @@ pub fn add_pi(
     rule: RuleSorts,
 ) -> Result<Judged, AllocError>
     requires ctx { ctx < length proof.old.nodes }
-    requires typed { IsTyped proof.old ctx }
+    requires typed { IsTypedContext proof.old ctx }
     requires subject { subject < length proof.old.shapes }
     requires claim { claim < length proof.old.shapes }
     requires domain { Judges proof.old ctx domain }
@@ -80,7 +80,7 @@ pub fn add_lam(
     product: Judged,
 ) -> Result<Judged, AllocError>
     requires ctx { ctx < length proof.old.nodes }
-    requires typed { IsTyped proof.old ctx }
+    requires typed { IsTypedContext proof.old ctx }
     requires subject { subject < length proof.old.shapes }
     requires claim { claim < length proof.old.shapes }
     requires inner { IsAssumeOf proof.old ctx domain inner }
@@ -129,7 +129,7 @@ pub fn add_app(
     codomain: usize,
 ) -> Result<Judged, AllocError>
     requires ctx { ctx < length proof.old.nodes }
-    requires typed { IsTyped proof.old ctx }
+    requires typed { IsTypedContext proof.old ctx }
     requires subject { subject < length proof.old.shapes }
     requires claim { claim < length proof.old.shapes }
     requires function { Judges proof.old ctx function }

@@ -2,7 +2,7 @@
 use Rattle.std.proofs.Common.{◌≡◌, ℕ, ◌<◌, refl, sym, ap, ◌∙◌, subst, List, length, arith}
 use Rattle.pts_terms.specs.Tree.{Named}
 use Rattle.pts_record.specs.Table.{Tables, named_at}
-use Rattle.pts_reduce_cost.specs.Costs.{Globals, Entries, Reduct, form, too_large, Reduces, Verdict, yes_, no_, beyond, Tests, nesting}
+use Rattle.pts_reduce_cost.specs.Costs.{Globals, Entries, Reduct, form, too_large, Reduces, TestAnswer, yes_, no_, beyond, Tests, nesting}
 use Rattle.pts_reduce_cost.specs.Run.{Run, ends, fails, deep, spent}
 use Rattle.pts_reduce_cost.specs.Work.{reduced, tested, Answer}
 use Rattle.pts_reduce_cost.specs.Laws.{WithinBudget, AboveBudget, IsReduction, IsTest}
@@ -29,7 +29,7 @@ none_reduced costs b (fails f k) p h = absurd p
 none_reduced costs b (deep k) (n, c, e) h = let l : b < n = h too_large n c in absurd (omega (arith, l, e))
 none_reduced costs b spent p h = refl
 
-none_tested : (costs : Verdict → ℕ → Type 0) (b : ℕ) (r : Answer) → IsTest costs b r → AboveBudget costs b → r ≡ spent
+none_tested : (costs : TestAnswer → ℕ → Type 0) (b : ℕ) (r : Answer) → IsTest costs b r → AboveBudget costs b → r ≡ spent
 none_tested costs b (ends v k) (n, c, e) h = let l : b < n = h yes_ n c in absurd (omega (arith, l, e))
 none_tested costs b (fails d k) (n, c, e) h = let l : b < n = h (no_ d.place d.left d.right) n c in absurd (omega (arith, l, e))
 none_tested costs b (deep k) (n, c, e) h = let l : b < n = h beyond n c in absurd (omega (arith, l, e))

@@ -9,47 +9,47 @@ use Rattle.pts_reduce_cost.specs.Run.{Run, fails, turned, and_then}
 use Rattle.pts_infer_cost.specs.Typing.{Flaw, FitFlaw, here, into, under, unsorted, wanted, judged, not_a_sort, not_product, of_argument, of_definition}
 use Rattle.pts_infer_cost.proofs.ByParts.{part_fails, part_deep, part_spent, turned_fails, turned_deep, turned_spent}
 use Rattle.pts_infer.specs.declared.fault.What.{What}
-use Rattle.pts_infer.specs.declared.fault.Found.{Found}
+use Rattle.pts_infer.specs.declared.fault.FoundFlaw.{FoundFlaw}
 use Rattle.pts_infer.specs.declared.fault.Fault.{Fault}
 use Rattle.pts_infer.specs.declared.fault.Fault.TheVariants.{Spent, Deep, Memory, Flawed}
 use Rattle.pts_infer.specs.declared.fault.Misfit.{Misfit}
 use Rattle.pts_infer.specs.declared.fault.Misfit.TheVariants as misfit
-use Rattle.pts_infer.specs.Given.{Shows, kind_of, flaw_of, FoundAs, StopsWith, MisfitsWith, Gives, ToldAs, ToldWanted, ToldOf}
+use Rattle.pts_infer.specs.Given.{ShownBelow, kind_of, flaw_of, FoundAs, StopsWith, MisfitsWith, Gives, ToldAs, ToldWanted, ToldOf}
 
 more : {A : Type 0} (xs : List A) (x : A) → reverse (xs ++ x ∷ []) ≡ x ∷ reverse xs
 more xs x = reverse-append xs (x ∷ [])
 
 -- A flaw without a place is here.
-pub shown_here : (ss : List Shape) (f : Found) (w : What) → f.place.items ≡ [] → f.names.items ≡ [] → f.what ≡ w → Shows (length ss) w → FoundAs ss (here (kind_of ss w)) (Flawed f)
+pub shown_here : (ss : List Shape) (f : FoundFlaw) (w : What) → f.place.items ≡ [] → f.names.items ≡ [] → f.what ≡ w → ShownBelow (length ss) w → FoundAs ss (here (kind_of ss w)) (Flawed f)
 shown_here ss f w p q e h =
     let x : reverse f.place.items ≡ [] = ap reverse p in
     let y : reverse f.names.items ≡ [] = ap reverse q in
     let z : kind_of ss f.what ≡ kind_of ss w = ap (kind_of ss) e in
-    (subst (Shows (length ss)) (sym e) h, cc)
+    (subst (ShownBelow (length ss)) (sym e) h, cc)
 
 -- A flaw of a part.
-pub outwards : (ss : List Shape) (f h : Found) (i : ℕ) → h.place.items ≡ f.place.items ++ i ∷ [] → h.names.items ≡ f.names.items → h.what ≡ f.what → ToldAs (into i) ss (Flawed f) (Flawed h)
+pub outwards : (ss : List Shape) (f h : FoundFlaw) (i : ℕ) → h.place.items ≡ f.place.items ++ i ∷ [] → h.names.items ≡ f.names.items → h.what ≡ f.what → ToldAs (into i) ss (Flawed f) (Flawed h)
 outwards ss f h i p q e =
     let x : reverse h.place.items ≡ i ∷ reverse f.place.items = ap reverse p ∙ more f.place.items i in
     let y : reverse h.names.items ≡ reverse f.names.items = ap reverse q in
     let z : kind_of ss h.what ≡ kind_of ss f.what = ap (kind_of ss) e in
-    (subst (Shows (length ss)) (sym e), cc)
+    (subst (ShownBelow (length ss)) (sym e), cc)
 
-pub outwards_under : (ss : List Shape) (f h : Found) (i : ℕ) (x : Name) → h.place.items ≡ f.place.items ++ i ∷ [] → h.names.items ≡ f.names.items ++ x ∷ [] → h.what ≡ f.what → ToldAs (under i x) ss (Flawed f) (Flawed h)
+pub outwards_under : (ss : List Shape) (f h : FoundFlaw) (i : ℕ) (x : Name) → h.place.items ≡ f.place.items ++ i ∷ [] → h.names.items ≡ f.names.items ++ x ∷ [] → h.what ≡ f.what → ToldAs (under i x) ss (Flawed f) (Flawed h)
 outwards_under ss f h i n p q e =
     let x : reverse h.place.items ≡ i ∷ reverse f.place.items = ap reverse p ∙ more f.place.items i in
     let y : reverse h.names.items ≡ n ∷ reverse f.names.items = ap reverse q ∙ more f.names.items n in
     let z : kind_of ss h.what ≡ kind_of ss f.what = ap (kind_of ss) e in
-    (subst (Shows (length ss)) (sym e), cc)
+    (subst (ShownBelow (length ss)) (sym e), cc)
 
 -- A flaw in place of any other.
-pub replaced : (g : Flaw → Flaw) (ss : List Shape) (f : Found) (e : Fault) (k : Flaw) → FoundAs ss k e → k ≡ g (flaw_of ss f) → ToldAs g ss (Flawed f) e
+pub replaced : (g : Flaw → Flaw) (ss : List Shape) (f : FoundFlaw) (e : Fault) (k : Flaw) → FoundAs ss k e → k ≡ g (flaw_of ss f) → ToldAs g ss (Flawed f) e
 replaced g ss f Memory k h q = tt
 replaced g ss f Spent k h q = absurd h
 replaced g ss f Deep k h q = absurd h
 replaced g ss f (Flawed d) k h q = (λ _. h.0, h.1 ∙ q)
 
-pub unproduct_told : (ss : List Shape) (f : Found) (e : Fault) (t : ℕ) → FoundAs ss (here (not_product (named_at ss t))) e → ToldAs (λ f. here (not_product (named_at ss t))) ss (Flawed f) e
+pub unproduct_told : (ss : List Shape) (f : FoundFlaw) (e : Fault) (t : ℕ) → FoundAs ss (here (not_product (named_at ss t))) e → ToldAs (λ f. here (not_product (named_at ss t))) ss (Flawed f) e
 unproduct_told ss f e t h = replaced (λ f. here (not_product (named_at ss t))) ss f e (here (not_product (named_at ss t))) h refl
 
 pub found_told : (g : Flaw → Flaw) (ss : List Shape) (k : Flaw) (e h : Fault) → FoundAs ss k e → ToldAs g ss e h → FoundAs ss (g k) h
@@ -63,20 +63,20 @@ found_told g ss k Memory Deep p q = absurd q
 found_told g ss k (Flawed d) Spent p q = absurd q
 found_told g ss k (Flawed d) Deep p q = absurd q
 
-pub unsorted_told : (ss : List Shape) (f : Found) (e : Fault) (i t : ℕ) (x : Name) → FoundAs ss (under i x (here (not_a_sort (named_at ss t)))) e → ToldAs (unsorted i x (named_at ss t)) ss (Flawed f) e
+pub unsorted_told : (ss : List Shape) (f : FoundFlaw) (e : Fault) (i t : ℕ) (x : Name) → FoundAs ss (under i x (here (not_a_sort (named_at ss t)))) e → ToldAs (unsorted i x (named_at ss t)) ss (Flawed f) e
 unsorted_told ss f e i t x h = replaced (unsorted i x (named_at ss t)) ss f e (under i x (here (not_a_sort (named_at ss t)))) h refl
 
 -- The flaws of fits.
-fit_replaced : (g : FitFlaw → Flaw) (ss : List Shape) (f : Found) (e : Fault) (k : Flaw) → FoundAs ss k e → k ≡ g (wanted (flaw_of ss f)) → ToldOf g ss (misfit.Wanted f) e
+fit_replaced : (g : FitFlaw → Flaw) (ss : List Shape) (f : FoundFlaw) (e : Fault) (k : Flaw) → FoundAs ss k e → k ≡ g (wanted (flaw_of ss f)) → ToldOf g ss (misfit.Wanted f) e
 fit_replaced g ss f Memory k h q = tt
 fit_replaced g ss f Spent k h q = absurd h
 fit_replaced g ss f Deep k h q = absurd h
 fit_replaced g ss f (Flawed d) k h q = (λ _. h.0, h.1 ∙ q)
 
-pub unfitting : (ss : List Shape) (f : Found) (d e : Fault) (t : ℕ) → FoundAs ss (here (not_a_sort (named_at ss t))) d → ToldAs (into 1) ss d e → ToldOf (of_argument (named_at ss t)) ss (misfit.Wanted f) e
+pub unfitting : (ss : List Shape) (f : FoundFlaw) (d e : Fault) (t : ℕ) → FoundAs ss (here (not_a_sort (named_at ss t))) d → ToldAs (into 1) ss d e → ToldOf (of_argument (named_at ss t)) ss (misfit.Wanted f) e
 unfitting ss f d e t h q = fit_replaced (of_argument (named_at ss t)) ss f e (into 1 (here (not_a_sort (named_at ss t)))) (found_told (into 1) ss (here (not_a_sort (named_at ss t))) d e h q) refl
 
-pub own_argument : (ss : List Shape) (f : Found) (e : Fault) (t : ℕ) → ToldAs (into 1) ss (Flawed f) e → ToldOf (of_argument (named_at ss t)) ss (misfit.Own f) e
+pub own_argument : (ss : List Shape) (f : FoundFlaw) (e : Fault) (t : ℕ) → ToldAs (into 1) ss (Flawed f) e → ToldOf (of_argument (named_at ss t)) ss (misfit.Own f) e
 own_argument ss f Memory t h = tt
 own_argument ss f (Flawed d) t h = h
 own_argument ss f Spent t h = absurd h
@@ -84,13 +84,13 @@ own_argument ss f Deep t h = absurd h
 
 pub ruleset argument_told = (unfitting, own_argument)
 
-pub wanted_type : (ss : List Shape) (f : Found) (e : Fault) → ToldAs (into 1) ss (Flawed f) e → ToldOf of_definition ss (misfit.Wanted f) e
+pub wanted_type : (ss : List Shape) (f : FoundFlaw) (e : Fault) → ToldAs (into 1) ss (Flawed f) e → ToldOf of_definition ss (misfit.Wanted f) e
 wanted_type ss f Memory h = tt
 wanted_type ss f (Flawed d) h = h
 wanted_type ss f Spent h = absurd h
 wanted_type ss f Deep h = absurd h
 
-pub own_value : (ss : List Shape) (f : Found) (e : Fault) → ToldAs (into 0) ss (Flawed f) e → ToldOf of_definition ss (misfit.Own f) e
+pub own_value : (ss : List Shape) (f : FoundFlaw) (e : Fault) → ToldAs (into 0) ss (Flawed f) e → ToldOf of_definition ss (misfit.Own f) e
 own_value ss f Memory h = tt
 own_value ss f (Flawed d) h = h
 own_value ss f Spent h = absurd h
@@ -99,7 +99,7 @@ own_value ss f Deep h = absurd h
 pub ruleset definition_told = (wanted_type, own_value)
 
 -- A flaw of a fit that is here.
-pub own_here : (ss : List Shape) (g : Flaw) (f : Found) (k : ℕ) → FoundAs ss g (Flawed f) → MisfitsWith {A = Unit {0}} ss (misfit.Own f) k (fails (judged g) k)
+pub own_here : (ss : List Shape) (g : Flaw) (f : FoundFlaw) (k : ℕ) → FoundAs ss g (Flawed f) → MisfitsWith {A = Unit {0}} ss (misfit.Own f) k (fails (judged g) k)
 own_here ss g f k h = (h.0, ap (λ x. fails (judged x) k) (sym h.1))
 
 -- Work that stops here.

@@ -7,7 +7,7 @@ use Rattle.pts_record.specs.declared.shape.Shape.{Shape}
 use Rattle.pts_record.specs.Table.{Tables, named_at}
 use Rattle.pts_record.specs.declared.shape.Form.{Form}
 use Rattle.pts_record.specs.declared.shape.Form.TheVariants.{Empty, Assume, Define, Bare as BareForm, Same, Left, Right, CongApp, CongLam, CongPi}
-use Rattle.pts_record.specs.Said.{Said, Line, named_told, judgement, scope_of, say_as, is_judgement, has_terms, place_of, subject_of, claim_of}
+use Rattle.pts_record.specs.Said.{Said, Row, named_told, judgement, scope_of, say_as, is_judgement, has_terms, place_of, subject_of, claim_of}
 use Rattle.pts_reduce_cost.specs.Costs.{Globals, Entries}
 use Rattle.pts_reduce_cost.specs.Run.{Run, ends}
 use Rattle.pts_reduce_cost.specs.Laws.{WithinBudget}
@@ -28,11 +28,11 @@ use Rattle.pts_infer.specs.declared.fault.Misfit.{Misfit}
 use Rattle.pts_infer.specs.declared.fault.Misfit.TheVariants as misfit
 use Rattle.pts_infer.specs.declared.answer.FitFault.{FitFault}
 use Rattle.pts_infer.specs.declared.answer.FitFault.TheVariants as fit
-use Rattle.pts_infer.specs.Given.{StopsWith, MisfitsWith, Stand, MisfitStands, flaw_of}
+use Rattle.pts_infer.specs.Given.{StopsWith, MisfitsWith, FaultStands, MisfitStands, flaw_of}
 use Rattle.pts_infer.specs.Answered.{Refused, ShownAs, Unfit, ShownMisfit}
 
 -- The terms of a fault stand.
-pub fault_stands : {A : Type 0} (ss : List Shape) (e : Fault) (k : ℕ) (r : Run Flaw A) → StopsWith ss e k r → Stand (length ss) e
+pub fault_stands : {A : Type 0} (ss : List Shape) (e : Fault) (k : ℕ) (r : Run Flaw A) → StopsWith ss e k r → FaultStands (length ss) e
 fault_stands ss Memory k r h = tt
 fault_stands ss Spent k r h = tt
 fault_stands ss Deep k r h = tt
@@ -100,7 +100,7 @@ unfit_as costs b r ss xs (misfit.Own f) fit.Deep k w t s = absurd t
 unfit_as costs b r ss xs (misfit.Own f) (fit.Wanted h) k w t s = absurd t
 
 -- What a judgement says, by the line that it is.
-pub judgement_told : {B : Type 0} (m : Said B) (f : Form) (k : ℕ) (l : Line B) (c p : Said B) → m ≡ say_as f k l c p → is_judgement m ≡ true → (m ≡ judgement l.ctx (scope_of c) l.subject l.claim) × (has_terms f ≡ true)
+pub judgement_told : {B : Type 0} (m : Said B) (f : Form) (k : ℕ) (l : Row B) (c p : Said B) → m ≡ say_as f k l c p → is_judgement m ≡ true → (m ≡ judgement l.ctx (scope_of c) l.subject l.claim) × (has_terms f ≡ true)
 judgement_told m Empty k l c p e h = absurd (cc (sym (ap is_judgement e) ∙ h))
 judgement_told m Assume k l c p e h = absurd (cc (sym (ap is_judgement e) ∙ h))
 judgement_told m Define k l c p e h = absurd (cc (sym (ap is_judgement e) ∙ h))

@@ -13,10 +13,10 @@ use Rattle.pts_ctx.specs.System.{Specification}
 use Rattle.pts_ctx.specs.Front.{Front}
 use Rattle.pts_rules.specs.Valid.{IsValid}
 use Rattle.pts_reduce.specs.Chain.{entries_of}
-use Rattle.pts_grow.specs.Judges.{Judges, IsTyped}
+use Rattle.pts_grow.specs.Judges.{Judges, IsTypedContext}
 use Rattle.pts_infer.specs.declared.fault.What.{What}
 use Rattle.pts_infer.specs.declared.fault.What.TheVariants.{NotASort, NotProduct, NoRule, NoAxiom, NotConvertible}
-use Rattle.pts_infer.specs.declared.fault.Found.{Found}
+use Rattle.pts_infer.specs.declared.fault.FoundFlaw.{FoundFlaw}
 use Rattle.pts_infer.specs.declared.fault.Fault.{Fault}
 use Rattle.pts_infer.specs.declared.fault.Fault.TheVariants.{Spent, Deep, Memory, Flawed}
 use Rattle.pts_infer.specs.declared.fault.Misfit.{Misfit}
@@ -28,21 +28,21 @@ same_fault made.TooLarge = Deep
 same_fault made.Memory = Memory
 
 -- The terms that are shown stand in a table of n terms.
-abbrev pub Shows : ℕ → What → Type 0
-Shows n (NotASort t) = t < n
-Shows n (NotProduct t) = t < n
-Shows n (NoRule s r) = Unit {0}
-Shows n (NoAxiom s) = Unit {0}
-Shows n (NotConvertible place have want) = (have < n) × (want < n)
+abbrev pub ShownBelow : ℕ → What → Type 0
+ShownBelow n (NotASort t) = t < n
+ShownBelow n (NotProduct t) = t < n
+ShownBelow n (NoRule s r) = Unit {0}
+ShownBelow n (NoAxiom s) = Unit {0}
+ShownBelow n (NotConvertible place have want) = (have < n) × (want < n)
 
 -- So do those of a fault.
-abbrev pub Stand : ℕ → Fault → Type 0
-Stand n (Flawed f) = Shows n f.what
-Stand n _ = Unit {0}
+abbrev pub FaultStands : ℕ → Fault → Type 0
+FaultStands n (Flawed f) = ShownBelow n f.what
+FaultStands n _ = Unit {0}
 
 abbrev pub MisfitStands : ℕ → Misfit → Type 0
-MisfitStands n (misfit.Wanted f) = Shows n f.what
-MisfitStands n (misfit.Own f) = Shows n f.what
+MisfitStands n (misfit.Wanted f) = ShownBelow n f.what
+MisfitStands n (misfit.Own f) = ShownBelow n f.what
 MisfitStands n _ = Unit {0}
 
 -- The flaw that was found, by the record's terms.
@@ -53,7 +53,7 @@ kind_of ss (NoRule s r) = no_rule s.0 r.0
 kind_of ss (NoAxiom s) = no_axiom s.0
 kind_of ss (NotConvertible place have want) = not_convertible place (named_at ss have) (named_at ss want)
 
-abbrev pub flaw_of : List Shape → Found → Flaw
+abbrev pub flaw_of : List Shape → FoundFlaw → Flaw
 flaw_of ss f = record { place = reverse f.place.items; names = reverse f.names.items; kind = kind_of ss f.what }
 
 -- A fault with k units left: the work came to the same. Want of memory is free.
@@ -61,14 +61,14 @@ abbrev pub StopsWith : {A : Type 0} → List Shape → Fault → ℕ → Run Fla
 StopsWith ss Memory k r = Unit {0}
 StopsWith ss Spent k r = (r ≡ spent) × (k ≡ 0)
 StopsWith ss Deep k r = r ≡ deep k
-StopsWith ss (Flawed f) k r = Shows (length ss) f.what × (r ≡ fails (flaw_of ss f) k)
+StopsWith ss (Flawed f) k r = ShownBelow (length ss) f.what × (r ≡ fails (flaw_of ss f) k)
 
 abbrev pub MisfitsWith : {A : Type 0} → List Shape → Misfit → ℕ → Run FitFlaw A → Type 0
 MisfitsWith ss misfit.Memory k r = Unit {0}
 MisfitsWith ss misfit.Spent k r = (r ≡ spent) × (k ≡ 0)
 MisfitsWith ss misfit.Deep k r = r ≡ deep k
-MisfitsWith ss (misfit.Wanted f) k r = Shows (length ss) f.what × (r ≡ fails (wanted (flaw_of ss f)) k)
-MisfitsWith ss (misfit.Own f) k r = Shows (length ss) f.what × (r ≡ fails (judged (flaw_of ss f)) k)
+MisfitsWith ss (misfit.Wanted f) k r = ShownBelow (length ss) f.what × (r ≡ fails (wanted (flaw_of ss f)) k)
+MisfitsWith ss (misfit.Own f) k r = ShownBelow (length ss) f.what × (r ≡ fails (judged (flaw_of ss f)) k)
 
 -- A fault of work that finds no flaw.
 abbrev pub PlainlyStops : {A : Type 0} → Fault → ℕ → Run ⊥ A → Type 0
@@ -80,7 +80,7 @@ PlainlyStops (Flawed f) k r = ⊥
 -- The fault is that flaw. Memory may be wanted on the way.
 abbrev pub FoundAs : List Shape → Flaw → Fault → Type 0
 FoundAs ss g Memory = Unit {0}
-FoundAs ss g (Flawed f) = Shows (length ss) f.what × (flaw_of ss f ≡ g)
+FoundAs ss g (Flawed f) = ShownBelow (length ss) f.what × (flaw_of ss f ≡ g)
 FoundAs ss g Spent = ⊥
 FoundAs ss g Deep = ⊥
 
@@ -89,9 +89,9 @@ abbrev pub Gives : {X A : Type 0} → List Shape → (X → A) → Result X Faul
 Gives ss value (Ok x) k r = r ≡ ends (value x) k
 Gives ss value (Err e) k r = StopsWith ss e k r
 
-abbrev pub Fits : {X : Type 0} → List Shape → Result X Misfit → ℕ → Run FitFlaw (Unit {0}) → Type 0
-Fits ss (Ok x) k r = r ≡ ends tt k
-Fits ss (Err e) k r = MisfitsWith ss e k r
+abbrev pub GivesFit : {X : Type 0} → List Shape → Result X Misfit → ℕ → Run FitFlaw (Unit {0}) → Type 0
+GivesFit ss (Ok x) k r = r ≡ ends tt k
+GivesFit ss (Err e) k r = MisfitsWith ss e k r
 
 -- The type of a judgement; the domain and the body of a function's product.
 abbrev pub type_of : List Shape → Judged → Named
@@ -110,7 +110,7 @@ abbrev pub ToldAs : (Flaw → Flaw) → List Shape → Fault → Fault → Type 
 ToldAs g ss e Memory = Unit {0}
 ToldAs g ss Spent Spent = Unit {0}
 ToldAs g ss Deep Deep = Unit {0}
-ToldAs g ss (Flawed f) (Flawed h) = (Shows (length ss) f.what → Shows (length ss) h.what) × (flaw_of ss h ≡ g (flaw_of ss f))
+ToldAs g ss (Flawed f) (Flawed h) = (ShownBelow (length ss) f.what → ShownBelow (length ss) h.what) × (flaw_of ss h ≡ g (flaw_of ss f))
 ToldAs g ss e h = ⊥
 
 -- The same from a flaw of an inference to one of a fit, and from one of a fit to one of an inference.
@@ -118,20 +118,20 @@ abbrev pub ToldWanted : List Shape → Fault → Misfit → Type 0
 ToldWanted ss e misfit.Memory = Unit {0}
 ToldWanted ss Spent misfit.Spent = Unit {0}
 ToldWanted ss Deep misfit.Deep = Unit {0}
-ToldWanted ss (Flawed f) (misfit.Wanted h) = (Shows (length ss) f.what → Shows (length ss) h.what) × (flaw_of ss h ≡ flaw_of ss f)
+ToldWanted ss (Flawed f) (misfit.Wanted h) = (ShownBelow (length ss) f.what → ShownBelow (length ss) h.what) × (flaw_of ss h ≡ flaw_of ss f)
 ToldWanted ss e h = ⊥
 
 abbrev pub ToldOf : (FitFlaw → Flaw) → List Shape → Misfit → Fault → Type 0
 ToldOf g ss e Memory = Unit {0}
 ToldOf g ss misfit.Spent Spent = Unit {0}
 ToldOf g ss misfit.Deep Deep = Unit {0}
-ToldOf g ss (misfit.Wanted f) (Flawed h) = (Shows (length ss) f.what → Shows (length ss) h.what) × (flaw_of ss h ≡ g (wanted (flaw_of ss f)))
-ToldOf g ss (misfit.Own f) (Flawed h) = (Shows (length ss) f.what → Shows (length ss) h.what) × (flaw_of ss h ≡ g (judged (flaw_of ss f)))
+ToldOf g ss (misfit.Wanted f) (Flawed h) = (ShownBelow (length ss) f.what → ShownBelow (length ss) h.what) × (flaw_of ss h ≡ g (wanted (flaw_of ss f)))
+ToldOf g ss (misfit.Own f) (Flawed h) = (ShownBelow (length ss) f.what → ShownBelow (length ss) h.what) × (flaw_of ss h ≡ g (judged (flaw_of ss f)))
 ToldOf g ss e h = ⊥
 
 -- A record that is valid over every front, with a context that is empty.
 abbrev pub IsOpened : Tables → ℕ → Type 0
-IsOpened r c = (c < length r.nodes) × IsTyped r c × (entries_of r c ≡ []) × ((S : Specification) (G : Front) → IsValid S G r)
+IsOpened r c = (c < length r.nodes) × IsTypedContext r c × (entries_of r c ≡ []) × ((S : Specification) (G : Front) → IsValid S G r)
 
 -- Why two terms are not both made: one of them is beyond the limits.
 abbrev pub IsTooLarge : TermFault → Type 0

@@ -10,7 +10,7 @@ ghost use Rattle.pts_rules.specs.Valid.{IsValid};
 ghost use Rattle.pts_infer_cost.specs.Typing.{by_rule, made};
 ghost use Rattle.pts_infer_cost.specs.Inference.{abstraction, body_inferred, body_sorted, gives, inferred, product, sorted};
 ghost use Rattle.pts_grow.specs.Keeps.{Keeps};
-ghost use Rattle.pts_grow.specs.Judges.{IsAssumeOf, IsTyped, Judges};
+ghost use Rattle.pts_grow.specs.Judges.{IsAssumeOf, IsTypedContext, Judges};
 ghost use Rattle.pts_reduce.specs.Given.{Later};
 ghost use Rattle.pts_reduce.specs.Chain.{entries_of};
 ghost use Rattle.pts_infer.specs.Given.{Gives, type_of};
@@ -44,7 +44,7 @@ pub(crate) fn infer_abstraction(
     meter: &mut Meter,
 ) -> Result<Judged, Fault>
     requires ctx { ctx < length proof.old.nodes }
-    requires typed { IsTyped proof.old ctx }
+    requires typed { IsTypedContext proof.old ctx }
     requires term { term < length proof.old.shapes }
     requires domain { domain < length proof.old.shapes }
     requires body { body < length proof.old.shapes }
@@ -80,7 +80,7 @@ fn abstract_over(
     meter: &mut Meter,
 ) -> Result<Judged, Fault>
     requires ctx { ctx < length proof.old.nodes }
-    requires typed { IsTyped proof.old ctx }
+    requires typed { IsTypedContext proof.old ctx }
     requires term { term < length proof.old.shapes }
     requires domain { Judges proof.old ctx domain.judged }
     requires sort { named_at proof.old.shapes domain.judged.claim ≡ sort_term domain.sort.0 }
@@ -116,7 +116,7 @@ fn abstract_inside(
     meter: &mut Meter,
 ) -> Result<Judged, Fault>
     requires ctx { ctx < length proof.old.nodes }
-    requires typed { IsTyped proof.old ctx }
+    requires typed { IsTypedContext proof.old ctx }
     requires term { term < length proof.old.shapes }
     requires domain { Judges proof.old ctx domain.judged }
     requires sort { named_at proof.old.shapes domain.judged.claim ≡ sort_term domain.sort.0 }
@@ -155,7 +155,7 @@ fn abstract_body(
     meter: &mut Meter,
 ) -> Result<Judged, Fault>
     requires ctx { ctx < length proof.old.nodes }
-    requires typed { IsTyped proof.old ctx }
+    requires typed { IsTypedContext proof.old ctx }
     requires term { term < length proof.old.shapes }
     requires domain { Judges proof.old ctx domain.judged }
     requires sort { named_at proof.old.shapes domain.judged.claim ≡ sort_term domain.sort.0 }
@@ -189,7 +189,7 @@ fn abstract_ruled(
     sorted: Sorted,
 ) -> Result<Judged, Fault>
     requires ctx { ctx < length proof.old.nodes }
-    requires typed { IsTyped proof.old ctx }
+    requires typed { IsTypedContext proof.old ctx }
     requires term { term < length proof.old.shapes }
     requires domain { Judges proof.old ctx domain.judged }
     requires sort { named_at proof.old.shapes domain.judged.claim ≡ sort_term domain.sort.0 }
@@ -232,7 +232,7 @@ fn abstract_made(
     product: Sort,
 ) -> Result<Judged, AllocError>
     requires ctx { ctx < length proof.old.nodes }
-    requires typed { IsTyped proof.old ctx }
+    requires typed { IsTypedContext proof.old ctx }
     requires term { term < length proof.old.shapes }
     requires claim { claim < length proof.old.shapes }
     requires domain { Judges proof.old ctx domain.judged }

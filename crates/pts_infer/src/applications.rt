@@ -9,7 +9,7 @@ ghost use Rattle.pts_rules.specs.Valid.{IsValid};
 ghost use Rattle.pts_infer_cost.specs.Typing.{made};
 ghost use Rattle.pts_infer_cost.specs.Inference.{application, argument_fitted, argument_inferred, function_typed, gives, inferred};
 ghost use Rattle.pts_grow.specs.Keeps.{Keeps, StaysValid};
-ghost use Rattle.pts_grow.specs.Judges.{IsTyped, Judges};
+ghost use Rattle.pts_grow.specs.Judges.{IsTypedContext, Judges};
 ghost use Rattle.pts_reduce.specs.Given.{Later};
 ghost use Rattle.pts_reduce.specs.Chain.{entries_of};
 ghost use Rattle.pts_infer.specs.Given.{Gives, IsFunction, type_of};
@@ -40,7 +40,7 @@ pub(crate) fn infer_application(
     meter: &mut Meter,
 ) -> Result<Judged, Fault>
     requires ctx { ctx < length proof.old.nodes }
-    requires typed { IsTyped proof.old ctx }
+    requires typed { IsTypedContext proof.old ctx }
     requires term { term < length proof.old.shapes }
     requires function { function < length proof.old.shapes }
     requires argument { argument < length proof.old.shapes }
@@ -77,7 +77,7 @@ fn apply_judged(
     meter: &mut Meter,
 ) -> Result<Judged, Fault>
     requires ctx { ctx < length proof.old.nodes }
-    requires typed { IsTyped proof.old ctx }
+    requires typed { IsTypedContext proof.old ctx }
     requires term { term < length proof.old.shapes }
     requires judged { Judges proof.old ctx judged }
     requires argument { argument < length proof.old.shapes }
@@ -114,7 +114,7 @@ fn apply_function(
     meter: &mut Meter,
 ) -> Result<Judged, Fault>
     requires ctx { ctx < length proof.old.nodes }
-    requires typed { IsTyped proof.old ctx }
+    requires typed { IsTypedContext proof.old ctx }
     requires term { term < length proof.old.shapes }
     requires function { IsFunction proof.old ctx function }
     requires argument { argument < length proof.old.shapes }
@@ -151,7 +151,7 @@ fn apply_fitted(
     meter: &mut Meter,
 ) -> Result<Judged, Fault>
     requires ctx { ctx < length proof.old.nodes }
-    requires typed { IsTyped proof.old ctx }
+    requires typed { IsTypedContext proof.old ctx }
     requires term { term < length proof.old.shapes }
     requires function { IsFunction proof.old ctx function }
     requires argument { Judges proof.old ctx argument }
@@ -188,7 +188,7 @@ fn apply_made(
     argument: Judged,
 ) -> Result<Judged, Fault>
     requires ctx { ctx < length proof.old.nodes }
-    requires typed { IsTyped proof.old ctx }
+    requires typed { IsTypedContext proof.old ctx }
     requires term { term < length proof.old.shapes }
     requires function { IsFunction proof.old ctx function }
     requires argument { Judges proof.old ctx argument }

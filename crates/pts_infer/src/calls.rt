@@ -11,7 +11,7 @@ ghost use Rattle.pts_rules.specs.Valid.{IsValid};
 ghost use Rattle.pts_reduce_cost.specs.Laws.{WithinBudget};
 ghost use Rattle.pts_infer_cost.specs.Typing.{Infers, SortTest, Fits, comes, inference_nesting};
 ghost use Rattle.pts_grow.specs.Keeps.{Keeps, IsNode};
-ghost use Rattle.pts_grow.specs.Judges.{IsTyped, Judges};
+ghost use Rattle.pts_grow.specs.Judges.{IsTypedContext, Judges};
 ghost use Rattle.pts_reduce.specs.Given.{Later};
 ghost use Rattle.pts_reduce.specs.Chain.{entries_of};
 ghost use Rattle.pts_infer.specs.Answered.{Refused, Unfit};
@@ -49,7 +49,7 @@ pub fn infer(
     meter: &mut Meter,
 ) -> Result<usize, InferFault>
     requires ctx { ctx < length proof.old.nodes }
-    requires typed { IsTyped proof.old ctx }
+    requires typed { IsTypedContext proof.old ctx }
     requires term { term < length proof.old.shapes }
     ensures judged { IfOk result (λ n. (T : Named) × WithinBudget (Infers system.now front.now.entries inference_nesting (entries_of proof.old ctx) (named_at proof.old.shapes term)) (left meter.old) (comes T) (left meter.new) × IsNode proof.new n (judgement ctx (scope_of (named_told proof.old ctx)) (named_at proof.old.shapes term) T)) }
     ensures refused { IfErr result (λ e. Refused names.now (Infers system.now front.now.entries inference_nesting (entries_of proof.old ctx) (named_at proof.old.shapes term)) e (left meter.old) (left meter.new)) }
@@ -100,7 +100,7 @@ pub fn sort_test(
 ) -> Result<usize, InferFault>
     requires node { node < length proof.old.nodes }
     requires judgement { is_judgement (named_told proof.old node) ≡ true }
-    requires typed { IsTyped proof.old (place_of (named_told proof.old node)) }
+    requires typed { IsTypedContext proof.old (place_of (named_told proof.old node)) }
     ensures judged { IfOk result (λ n. (s : ℕ) × WithinBudget (SortTest system.now front.now.entries (entries_of proof.old node) (claim_of (named_told proof.old node))) (left meter.old) (comes s) (left meter.new) × IsNode proof.new n (judgement (place_of (named_told proof.old node)) (scope_of (named_told proof.old node)) (subject_of (named_told proof.old node)) (sort_term s))) }
     ensures refused { IfErr result (λ e. Refused names.now (SortTest system.now front.now.entries (entries_of proof.old node) (claim_of (named_told proof.old node))) e (left meter.old) (left meter.new)) }
     ensures keeps { Keeps proof.old proof.new }
@@ -134,7 +134,7 @@ pub fn fit(
 ) -> Result<usize, FitFault>
     requires node { node < length proof.old.nodes }
     requires judgement { is_judgement (named_told proof.old node) ≡ true }
-    requires typed { IsTyped proof.old (place_of (named_told proof.old node)) }
+    requires typed { IsTypedContext proof.old (place_of (named_told proof.old node)) }
     requires want { want < length proof.old.shapes }
     ensures judged { IfOk result (λ n. WithinBudget (Fits system.now front.now.entries inference_nesting (entries_of proof.old node) (claim_of (named_told proof.old node)) (named_at proof.old.shapes want)) (left meter.old) (comes tt) (left meter.new) × IsNode proof.new n (judgement (place_of (named_told proof.old node)) (scope_of (named_told proof.old node)) (subject_of (named_told proof.old node)) (named_at proof.old.shapes want))) }
     ensures refused { IfErr result (λ e. Unfit names.now (Fits system.now front.now.entries inference_nesting (entries_of proof.old node) (claim_of (named_told proof.old node)) (named_at proof.old.shapes want)) e (left meter.old) (left meter.new)) }

@@ -4,7 +4,7 @@ ghost use Rattle.std.specs.Prelude.{◌≡◌, ◌<◌, length, suc, IfOk};
 ghost use Rattle.pts_ctx.specs.System.{Specification};
 ghost use Rattle.pts_ctx.specs.Front.{Front};
 ghost use Rattle.pts_grow.specs.Keeps.{Keeps, StaysValid};
-ghost use Rattle.pts_grow.specs.Judges.{IsTyped, Judges};
+ghost use Rattle.pts_grow.specs.Judges.{IsTypedContext, Judges};
 
 use pts_grow::Judged;
 use pts_record::{Form, Node, Record};
@@ -14,7 +14,7 @@ use std::alloc::AllocError;
 #[tactic(auto, using(pts_grow::proofs::Grow::keeping))]
 pub(crate) fn close(proof: &mut Record, ctx: usize, judged: Judged) -> Result<usize, AllocError>
     requires ctx { ctx < length proof.old.nodes }
-    requires typed { IsTyped proof.old ctx }
+    requires typed { IsTypedContext proof.old ctx }
     requires judged { Judges proof.old ctx judged }
     ensures last { IfOk result (λ n. suc n ≡ length proof.new.nodes) }
     ensures judges { IfOk result (λ n. Judges proof.new ctx (record { subject = judged.subject; claim = judged.claim; node = n })) }
@@ -31,7 +31,7 @@ pub(crate) fn close(proof: &mut Record, ctx: usize, judged: Judged) -> Result<us
 #[tactic(auto, using(pts_grow::proofs::Grow::pushed, pts_grow::proofs::Judgements::new_judges, crate::proofs::Conclusions::last_node))]
 fn repeat(proof: &mut Record, ctx: usize, judged: Judged) -> Result<usize, AllocError>
     requires ctx { ctx < length proof.old.nodes }
-    requires typed { IsTyped proof.old ctx }
+    requires typed { IsTypedContext proof.old ctx }
     requires judged { Judges proof.old ctx judged }
     ensures last { IfOk result (λ n. suc n ≡ length proof.new.nodes) }
     ensures judges { IfOk result (λ n. Judges proof.new ctx (record { subject = judged.subject; claim = judged.claim; node = n })) }

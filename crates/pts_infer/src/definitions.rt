@@ -9,7 +9,7 @@ ghost use Rattle.pts_rules.specs.Valid.{IsValid};
 ghost use Rattle.pts_infer_cost.specs.Typing.{as_sort, made};
 ghost use Rattle.pts_infer_cost.specs.Inference.{definition_body, definition_fitted, definition_type, gives, inferred, local_definition, sorted};
 ghost use Rattle.pts_grow.specs.Keeps.{Keeps, StaysValid};
-ghost use Rattle.pts_grow.specs.Judges.{IsDefineOf, IsTyped, Judges};
+ghost use Rattle.pts_grow.specs.Judges.{IsDefineOf, IsTypedContext, Judges};
 ghost use Rattle.pts_reduce.specs.Given.{Later};
 ghost use Rattle.pts_reduce.specs.Chain.{entries_of};
 ghost use Rattle.pts_infer.specs.Given.{Gives, type_of};
@@ -44,7 +44,7 @@ pub(crate) fn infer_definition(
     meter: &mut Meter,
 ) -> Result<Judged, Fault>
     requires ctx { ctx < length proof.old.nodes }
-    requires typed { IsTyped proof.old ctx }
+    requires typed { IsTypedContext proof.old ctx }
     requires term { term < length proof.old.shapes }
     requires value { value < length proof.old.shapes }
     requires ty { ty < length proof.old.shapes }
@@ -82,7 +82,7 @@ fn define_fitted(
     meter: &mut Meter,
 ) -> Result<Judged, Fault>
     requires ctx { ctx < length proof.old.nodes }
-    requires typed { IsTyped proof.old ctx }
+    requires typed { IsTypedContext proof.old ctx }
     requires term { term < length proof.old.shapes }
     requires value { Judges proof.old ctx value }
     requires ty { ty < length proof.old.shapes }
@@ -119,7 +119,7 @@ fn define_over(
     meter: &mut Meter,
 ) -> Result<Judged, Fault>
     requires ctx { ctx < length proof.old.nodes }
-    requires typed { IsTyped proof.old ctx }
+    requires typed { IsTypedContext proof.old ctx }
     requires term { term < length proof.old.shapes }
     requires definition { Judges proof.old ctx definition }
     requires body { body < length proof.old.shapes }
@@ -154,7 +154,7 @@ fn define_inside(
     meter: &mut Meter,
 ) -> Result<Judged, Fault>
     requires ctx { ctx < length proof.old.nodes }
-    requires typed { IsTyped proof.old ctx }
+    requires typed { IsTypedContext proof.old ctx }
     requires term { term < length proof.old.shapes }
     requires definition { Judges proof.old ctx definition }
     requires inner { IsDefineOf proof.old ctx definition inner }
@@ -192,7 +192,7 @@ fn define_typed(
     meter: &mut Meter,
 ) -> Result<Judged, Fault>
     requires ctx { ctx < length proof.old.nodes }
-    requires typed { IsTyped proof.old ctx }
+    requires typed { IsTypedContext proof.old ctx }
     requires term { term < length proof.old.shapes }
     requires definition { Judges proof.old ctx definition }
     requires inner { IsDefineOf proof.old ctx definition inner }
@@ -232,7 +232,7 @@ fn define_sorted(
     meter: &mut Meter,
 ) -> Result<Judged, Fault>
     requires ctx { ctx < length proof.old.nodes }
-    requires typed { IsTyped proof.old ctx }
+    requires typed { IsTypedContext proof.old ctx }
     requires term { term < length proof.old.shapes }
     requires definition { Judges proof.old ctx definition }
     requires inner { IsDefineOf proof.old ctx definition inner }
@@ -265,7 +265,7 @@ fn define_made(
     sorted: Sorted,
 ) -> Result<Judged, Fault>
     requires ctx { ctx < length proof.old.nodes }
-    requires typed { IsTyped proof.old ctx }
+    requires typed { IsTypedContext proof.old ctx }
     requires term { term < length proof.old.shapes }
     requires definition { Judges proof.old ctx definition }
     requires inner { IsDefineOf proof.old ctx definition inner }
@@ -299,7 +299,7 @@ fn define_judged(
     sorted: Sorted,
 ) -> Result<Judged, AllocError>
     requires ctx { ctx < length proof.old.nodes }
-    requires typed { IsTyped proof.old ctx }
+    requires typed { IsTypedContext proof.old ctx }
     requires term { term < length proof.old.shapes }
     requires claim { claim < length proof.old.shapes }
     requires definition { Judges proof.old ctx definition }

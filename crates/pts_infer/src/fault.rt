@@ -23,7 +23,7 @@ pub(crate) enum What {
 
 // A flaw, with the parts that lead to it and the binders that are passed on the way, the innermost first.
 #[derive(Debug, Drop)]
-pub(crate) struct Found {
+pub(crate) struct FoundFlaw {
     pub place: Vec<u8>,
     pub names: Vec<Name>,
     pub what: What,
@@ -35,7 +35,7 @@ pub(crate) enum Fault {
     Spent,
     Deep,
     Memory,
-    Flawed(Boxed<Found>),
+    Flawed(Boxed<FoundFlaw>),
 }
 
 // The same of a fit: the flaw is one of the wanted type, or of the judged term.
@@ -44,8 +44,8 @@ pub(crate) enum Misfit {
     Spent,
     Deep,
     Memory,
-    Wanted(Boxed<Found>),
-    Own(Boxed<Found>),
+    Wanted(Boxed<FoundFlaw>),
+    Own(Boxed<FoundFlaw>),
 }
 
 impl From<AllocError> for Fault {

@@ -1,4 +1,4 @@
-// Fits: a judgement with a wanted type.
+// A fit: a judgement with a wanted type.
 
 ghost use Rattle.std.specs.Prelude.{IfOk, length, ℕ, ◌<◌, ◌≡◌};
 ghost use Rattle.pts_terms.specs.Tree.{sort as sort_term};
@@ -9,10 +9,10 @@ ghost use Rattle.pts_rules.specs.Meter.{left};
 ghost use Rattle.pts_rules.specs.Valid.{IsValid};
 ghost use Rattle.pts_infer_cost.specs.Inference.{fit_tested, fitted, inferred, sorted, types_compared};
 ghost use Rattle.pts_grow.specs.Keeps.{Keeps, StaysValid};
-ghost use Rattle.pts_grow.specs.Judges.{IsTyped, Judges};
+ghost use Rattle.pts_grow.specs.Judges.{IsTypedContext, Judges};
 ghost use Rattle.pts_reduce.specs.Given.{Later};
 ghost use Rattle.pts_reduce.specs.Chain.{entries_of};
-ghost use Rattle.pts_infer.specs.Given.{Fits};
+ghost use Rattle.pts_infer.specs.Given.{GivesFit};
 
 use crate::fault::Misfit;
 use crate::inferring::sorted_in;
@@ -40,10 +40,10 @@ pub(crate) fn fit_in(
     meter: &mut Meter,
 ) -> Result<Judged, Misfit>
     requires ctx { ctx < length proof.old.nodes }
-    requires typed { IsTyped proof.old ctx }
+    requires typed { IsTypedContext proof.old ctx }
     requires judged { Judges proof.old ctx judged }
     requires want { want < length proof.old.shapes }
-    ensures runs { Fits proof.new.shapes result (left meter.new) (fitted system.now front.now.entries (inferred system.now front.now.entries allowed) (entries_of proof.old ctx) (named_at proof.old.shapes judged.claim) (named_at proof.old.shapes want) (left meter.old)) }
+    ensures runs { GivesFit proof.new.shapes result (left meter.new) (fitted system.now front.now.entries (inferred system.now front.now.entries allowed) (entries_of proof.old ctx) (named_at proof.old.shapes judged.claim) (named_at proof.old.shapes want) (left meter.old)) }
     ensures pair { IfOk result (λ j. (j.subject ≡ judged.subject) × (j.claim ≡ want)) }
     ensures judges { IfOk result (λ j. Judges proof.new ctx j) }
     ensures keeps { Keeps proof.old proof.new }
@@ -68,7 +68,7 @@ fn fit_equal(
     want: usize,
 ) -> Result<Judged, AllocError>
     requires ctx { ctx < length proof.old.nodes }
-    requires typed { IsTyped proof.old ctx }
+    requires typed { IsTypedContext proof.old ctx }
     requires judged { Judges proof.old ctx judged }
     requires want { want < length proof.old.shapes }
     requires same { bare_at proof.old.shapes want ≡ bare_at proof.old.shapes judged.claim }
@@ -97,10 +97,10 @@ fn fit_other(
     meter: &mut Meter,
 ) -> Result<Judged, Misfit>
     requires ctx { ctx < length proof.old.nodes }
-    requires typed { IsTyped proof.old ctx }
+    requires typed { IsTypedContext proof.old ctx }
     requires judged { Judges proof.old ctx judged }
     requires want { want < length proof.old.shapes }
-    ensures runs { Fits proof.new.shapes result (left meter.new) (fit_tested system.now front.now.entries (inferred system.now front.now.entries allowed) (entries_of proof.old ctx) (named_at proof.old.shapes judged.claim) (named_at proof.old.shapes want) (left meter.old)) }
+    ensures runs { GivesFit proof.new.shapes result (left meter.new) (fit_tested system.now front.now.entries (inferred system.now front.now.entries allowed) (entries_of proof.old ctx) (named_at proof.old.shapes judged.claim) (named_at proof.old.shapes want) (left meter.old)) }
     ensures pair { IfOk result (λ j. (j.subject ≡ judged.subject) × (j.claim ≡ want)) }
     ensures judges { IfOk result (λ j. Judges proof.new ctx j) }
     ensures keeps { Keeps proof.old proof.new }
@@ -125,13 +125,13 @@ fn fit_sorted(
     meter: &mut Meter,
 ) -> Result<Judged, Misfit>
     requires ctx { ctx < length proof.old.nodes }
-    requires typed { IsTyped proof.old ctx }
+    requires typed { IsTypedContext proof.old ctx }
     requires judged { Judges proof.old ctx judged }
     requires want { want < length proof.old.shapes }
     requires sorted { Judges proof.old ctx sorted.judged }
     requires subject { sorted.judged.subject ≡ want }
     requires sort { named_at proof.old.shapes sorted.judged.claim ≡ sort_term sorted.sort.0 }
-    ensures runs { (s : ℕ) → Fits proof.new.shapes result (left meter.new) (types_compared front.now.entries (entries_of proof.old ctx) (named_at proof.old.shapes judged.claim) (named_at proof.old.shapes want) s (left meter.old)) }
+    ensures runs { (s : ℕ) → GivesFit proof.new.shapes result (left meter.new) (types_compared front.now.entries (entries_of proof.old ctx) (named_at proof.old.shapes judged.claim) (named_at proof.old.shapes want) s (left meter.old)) }
     ensures pair { IfOk result (λ j. (j.subject ≡ judged.subject) × (j.claim ≡ want)) }
     ensures judges { IfOk result (λ j. Judges proof.new ctx j) }
     ensures keeps { Keeps proof.old proof.new }

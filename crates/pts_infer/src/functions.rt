@@ -10,7 +10,7 @@ ghost use Rattle.pts_rules.specs.Valid.{IsValid};
 ghost use Rattle.pts_infer_cost.specs.Typing.{as_product};
 ghost use Rattle.pts_infer_cost.specs.Inference.{inferred, product, product_found, sorted};
 ghost use Rattle.pts_grow.specs.Keeps.{Compares, Keeps, StaysValid};
-ghost use Rattle.pts_grow.specs.Judges.{IsTyped, Judges};
+ghost use Rattle.pts_grow.specs.Judges.{IsTypedContext, Judges};
 ghost use Rattle.pts_reduce.specs.Given.{Later};
 ghost use Rattle.pts_reduce.specs.Chain.{entries_of};
 ghost use Rattle.pts_infer.specs.Given.{Gives, IsFunction, product_of};
@@ -52,7 +52,7 @@ pub(crate) fn function_in(
     meter: &mut Meter,
 ) -> Result<Function, Fault>
     requires ctx { ctx < length proof.old.nodes }
-    requires typed { IsTyped proof.old ctx }
+    requires typed { IsTypedContext proof.old ctx }
     requires judged { Judges proof.old ctx judged }
     ensures runs { Gives proof.new.shapes (product_of proof.new.shapes) result (left meter.new) (product_found system.now front.now.entries (inferred system.now front.now.entries allowed) (entries_of proof.old ctx) (named_at proof.old.shapes judged.claim) (left meter.old)) }
     ensures subject { IfOk result (λ f. f.judged.subject ≡ judged.subject) }
@@ -84,7 +84,7 @@ fn function_by_form(
     meter: &mut Meter,
 ) -> Result<Function, Fault>
     requires ctx { ctx < length proof.old.nodes }
-    requires typed { IsTyped proof.old ctx }
+    requires typed { IsTypedContext proof.old ctx }
     requires judged { Judges proof.old ctx judged }
     requires unknown { as_product (named_at proof.old.shapes judged.claim) ≡ None }
     ensures runs { Gives proof.new.shapes (product_of proof.new.shapes) result (left meter.new) (product_found system.now front.now.entries (inferred system.now front.now.entries allowed) (entries_of proof.old ctx) (named_at proof.old.shapes judged.claim) (left meter.old)) }
@@ -116,7 +116,7 @@ fn function_reached(
     codomain: usize,
 ) -> Result<Function, AllocError>
     requires ctx { ctx < length proof.old.nodes }
-    requires typed { IsTyped proof.old ctx }
+    requires typed { IsTypedContext proof.old ctx }
     requires judged { Judges proof.old ctx judged }
     requires form { Compares proof.old ctx (record { left = judged.claim; right = form.term; node = form.node }) }
     requires sorted { Judges proof.old ctx sorted.judged }

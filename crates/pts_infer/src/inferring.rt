@@ -8,7 +8,7 @@ ghost use Rattle.pts_rules.specs.Meter.{left};
 ghost use Rattle.pts_rules.specs.Valid.{IsValid};
 ghost use Rattle.pts_infer_cost.specs.Inference.{inferred, sorted, typed_by_form};
 ghost use Rattle.pts_grow.specs.Keeps.{Keeps};
-ghost use Rattle.pts_grow.specs.Judges.{IsTyped, Judges};
+ghost use Rattle.pts_grow.specs.Judges.{IsTypedContext, Judges};
 ghost use Rattle.pts_reduce.specs.Given.{Later};
 ghost use Rattle.pts_reduce.specs.Chain.{entries_of};
 ghost use Rattle.pts_infer.specs.Given.{Gives, type_of};
@@ -41,7 +41,7 @@ pub(crate) fn infer_in(
     meter: &mut Meter,
 ) -> Result<Judged, Fault>
     requires ctx { ctx < length proof.old.nodes }
-    requires typed { IsTyped proof.old ctx }
+    requires typed { IsTypedContext proof.old ctx }
     requires term { term < length proof.old.shapes }
     ensures runs { Gives proof.new.shapes (type_of proof.new.shapes) result (left meter.new) (inferred system.now front.now.entries allowed (entries_of proof.old ctx) (named_at proof.old.shapes term) (left meter.old)) }
     ensures pair { IfOk result (λ j. j.subject ≡ term) }
@@ -72,7 +72,7 @@ fn infer_form(
     meter: &mut Meter,
 ) -> Result<Judged, Fault>
     requires ctx { ctx < length proof.old.nodes }
-    requires typed { IsTyped proof.old ctx }
+    requires typed { IsTypedContext proof.old ctx }
     requires term { term < length proof.old.shapes }
     ensures runs { Gives proof.new.shapes (type_of proof.new.shapes) result (left meter.new) (typed_by_form system.now front.now.entries (inferred system.now front.now.entries allowed) (entries_of proof.old ctx) (named_at proof.old.shapes term) (left meter.old)) }
     ensures pair { IfOk result (λ j. j.subject ≡ term) }
@@ -135,7 +135,7 @@ pub(crate) fn sorted_in(
     meter: &mut Meter,
 ) -> Result<Sorted, Fault>
     requires ctx { ctx < length proof.old.nodes }
-    requires typed { IsTyped proof.old ctx }
+    requires typed { IsTypedContext proof.old ctx }
     requires term { term < length proof.old.shapes }
     ensures runs { Gives proof.new.shapes (λ s. s.sort.0) result (left meter.new) (sorted system.now front.now.entries (inferred system.now front.now.entries allowed) (entries_of proof.old ctx) (named_at proof.old.shapes term) (left meter.old)) }
     ensures subject { IfOk result (λ s. s.judged.subject ≡ term) }

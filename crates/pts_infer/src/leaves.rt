@@ -11,7 +11,7 @@ ghost use Rattle.pts_rules.specs.Valid.{IsValid};
 ghost use Rattle.pts_infer_cost.specs.Typing.{as_sort, by_axiom, type_at};
 ghost use Rattle.pts_infer_cost.specs.Inference.{gives, looked_up, type_of_global};
 ghost use Rattle.pts_grow.specs.Keeps.{IsTerm, Keeps, StaysValid};
-ghost use Rattle.pts_grow.specs.Judges.{IsTyped, Judges};
+ghost use Rattle.pts_grow.specs.Judges.{IsTypedContext, Judges};
 ghost use Rattle.pts_reduce.specs.Given.{Later};
 ghost use Rattle.pts_reduce.specs.Chain.{entries_of};
 ghost use Rattle.pts_infer.specs.Given.{Gives, type_of};
@@ -64,7 +64,7 @@ pub(crate) fn judge_sort(
     above: Sort,
 ) -> Result<Judged, AllocError>
     requires ctx { ctx < length proof.old.nodes }
-    requires typed { IsTyped proof.old ctx }
+    requires typed { IsTypedContext proof.old ctx }
     requires term { term < length proof.old.shapes }
     requires sort { named_at proof.old.shapes term ≡ sort_term sort.0 }
     requires axiom { axiom_of system.now sort.0 ≡ Some above.0 }
@@ -88,7 +88,7 @@ pub(crate) fn infer_sort(
     sort: Sort,
 ) -> Result<Judged, Fault>
     requires ctx { ctx < length proof.old.nodes }
-    requires typed { IsTyped proof.old ctx }
+    requires typed { IsTypedContext proof.old ctx }
     requires term { term < length proof.old.shapes }
     requires sort { named_at proof.old.shapes term ≡ sort_term sort.0 }
     ensures runs { (k : ℕ) → Gives proof.new.shapes (type_of proof.new.shapes) result k (gives (by_axiom sort.0 (axiom_of system.now sort.0)) k) }
@@ -114,7 +114,7 @@ pub(crate) fn infer_constant(
     meter: &mut Meter,
 ) -> Result<Judged, Fault>
     requires ctx { ctx < length proof.old.nodes }
-    requires typed { IsTyped proof.old ctx }
+    requires typed { IsTypedContext proof.old ctx }
     requires term { term < length proof.old.shapes }
     requires constant { named_at proof.old.shapes term ≡ const name.now }
     ensures runs { Gives proof.new.shapes (type_of proof.new.shapes) result (left meter.new) (looked_up (type_of_global (find name.now front.now.entries)) (left meter.old)) }
@@ -145,7 +145,7 @@ pub(crate) fn infer_variable(
     meter: &mut Meter,
 ) -> Result<Judged, Fault>
     requires ctx { ctx < length proof.old.nodes }
-    requires typed { IsTyped proof.old ctx }
+    requires typed { IsTypedContext proof.old ctx }
     requires term { term < length proof.old.shapes }
     requires variable { named_at proof.old.shapes term ≡ var index }
     ensures runs { Gives proof.new.shapes (type_of proof.new.shapes) result (left meter.new) (looked_up (type_at index (entry_at (entries_of proof.old ctx) index)) (left meter.old)) }

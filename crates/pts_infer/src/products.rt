@@ -10,7 +10,7 @@ ghost use Rattle.pts_rules.specs.Valid.{IsValid};
 ghost use Rattle.pts_infer_cost.specs.Typing.{by_rule, comes};
 ghost use Rattle.pts_infer_cost.specs.Inference.{gives, inferred, product, product_body};
 ghost use Rattle.pts_grow.specs.Keeps.{Keeps};
-ghost use Rattle.pts_grow.specs.Judges.{IsAssumeOf, IsTyped, Judges};
+ghost use Rattle.pts_grow.specs.Judges.{IsAssumeOf, IsTypedContext, Judges};
 ghost use Rattle.pts_reduce.specs.Given.{Later};
 ghost use Rattle.pts_reduce.specs.Chain.{entries_of};
 ghost use Rattle.pts_infer.specs.Given.{Gives, type_of};
@@ -44,7 +44,7 @@ pub(crate) fn infer_product(
     meter: &mut Meter,
 ) -> Result<Judged, Fault>
     requires ctx { ctx < length proof.old.nodes }
-    requires typed { IsTyped proof.old ctx }
+    requires typed { IsTypedContext proof.old ctx }
     requires term { term < length proof.old.shapes }
     requires domain { domain < length proof.old.shapes }
     requires body { body < length proof.old.shapes }
@@ -80,7 +80,7 @@ fn product_over(
     meter: &mut Meter,
 ) -> Result<Judged, Fault>
     requires ctx { ctx < length proof.old.nodes }
-    requires typed { IsTyped proof.old ctx }
+    requires typed { IsTypedContext proof.old ctx }
     requires term { term < length proof.old.shapes }
     requires domain { Judges proof.old ctx domain.judged }
     requires sort { named_at proof.old.shapes domain.judged.claim ≡ sort_term domain.sort.0 }
@@ -116,7 +116,7 @@ fn product_inside(
     meter: &mut Meter,
 ) -> Result<Judged, Fault>
     requires ctx { ctx < length proof.old.nodes }
-    requires typed { IsTyped proof.old ctx }
+    requires typed { IsTypedContext proof.old ctx }
     requires term { term < length proof.old.shapes }
     requires domain { Judges proof.old ctx domain.judged }
     requires sort { named_at proof.old.shapes domain.judged.claim ≡ sort_term domain.sort.0 }
@@ -148,7 +148,7 @@ fn product_made(
     body: Sorted,
 ) -> Result<Judged, Fault>
     requires ctx { ctx < length proof.old.nodes }
-    requires typed { IsTyped proof.old ctx }
+    requires typed { IsTypedContext proof.old ctx }
     requires term { term < length proof.old.shapes }
     requires domain { Judges proof.old ctx domain.judged }
     requires sort { named_at proof.old.shapes domain.judged.claim ≡ sort_term domain.sort.0 }
@@ -181,7 +181,7 @@ pub(crate) fn judge_product(
     product: Sort,
 ) -> Result<Judged, AllocError>
     requires ctx { ctx < length proof.old.nodes }
-    requires typed { IsTyped proof.old ctx }
+    requires typed { IsTypedContext proof.old ctx }
     requires term { term < length proof.old.shapes }
     requires domain { Judges proof.old ctx domain.judged }
     requires sort { named_at proof.old.shapes domain.judged.claim ≡ sort_term domain.sort.0 }

@@ -10,10 +10,10 @@ ghost use Rattle.pts_reduce_cost.specs.Run.{ends};
 ghost use Rattle.pts_reduce_cost.specs.Work.{reduced};
 ghost use Rattle.pts_infer_cost.specs.Inference.{types_compared};
 ghost use Rattle.pts_grow.specs.Keeps.{Compares, Keeps};
-ghost use Rattle.pts_grow.specs.Judges.{IsTyped};
+ghost use Rattle.pts_grow.specs.Judges.{IsTypedContext};
 ghost use Rattle.pts_reduce.specs.Given.{Later};
 ghost use Rattle.pts_reduce.specs.Chain.{entries_of};
-ghost use Rattle.pts_infer.specs.Given.{Fits, PlainlyStops};
+ghost use Rattle.pts_infer.specs.Given.{GivesFit, PlainlyStops};
 
 use crate::fault::{Fault, Misfit, What};
 use crate::told::misfit_here;
@@ -33,7 +33,7 @@ pub(crate) fn form_of(
     meter: &mut Meter,
 ) -> Result<Whnf, Fault>
     requires ctx { ctx < length proof.old.nodes }
-    requires typed { IsTyped proof.old ctx }
+    requires typed { IsTypedContext proof.old ctx }
     requires term { term < length proof.old.shapes }
     ensures form { IfOk result (λ w. reduced front.now.entries (entries_of proof.old ctx) (left meter.old) (named_at proof.old.shapes term) ≡ ends (named_at proof.new.shapes w.term) (left meter.new)) }
     ensures stopped { IfErr result (λ e. PlainlyStops e (left meter.new) (reduced front.now.entries (entries_of proof.old ctx) (left meter.old) (named_at proof.old.shapes term))) }
@@ -61,10 +61,10 @@ pub(crate) fn compare_types(
     meter: &mut Meter,
 ) -> Result<Compared, Misfit>
     requires ctx { ctx < length proof.old.nodes }
-    requires typed { IsTyped proof.old ctx }
+    requires typed { IsTypedContext proof.old ctx }
     requires have { have < length proof.old.shapes }
     requires want { want < length proof.old.shapes }
-    ensures runs { (s : ℕ) → Fits proof.new.shapes result (left meter.new) (types_compared front.now.entries (entries_of proof.old ctx) (named_at proof.old.shapes have) (named_at proof.old.shapes want) s (left meter.old)) }
+    ensures runs { (s : ℕ) → GivesFit proof.new.shapes result (left meter.new) (types_compared front.now.entries (entries_of proof.old ctx) (named_at proof.old.shapes have) (named_at proof.old.shapes want) s (left meter.old)) }
     ensures pair { IfOk result (λ c. (c.left ≡ have) × (c.right ≡ want)) }
     ensures compares { IfOk result (λ c. Compares proof.new ctx c) }
     ensures keeps { Keeps proof.old proof.new }

@@ -1,18 +1,18 @@
 // Flaws, as they are answered: by terms in place of numbers.
 
 ghost use Rattle.std.specs.Prelude.{◌≡◌, ◌++◌, IfOk, length, reverse};
-ghost use Rattle.pts_infer.specs.Given.{Shows, Stand, MisfitStands, flaw_of, kind_of};
+ghost use Rattle.pts_infer.specs.Given.{ShownBelow, FaultStands, MisfitStands, flaw_of, kind_of};
 ghost use Rattle.pts_infer.specs.Answered.{kind_seen, flaw_seen, behind, ShownAs, ShownJudged, ShownMisfit};
 
 use crate::answer::{FitFault, Flaw, FlawKind, InferFault};
-use crate::fault::{Fault, Found, Misfit, What};
+use crate::fault::{Fault, FoundFlaw, Misfit, What};
 use pts_names::{List, Name};
 use pts_record::Record;
 use std::alloc::{AllocError, Global};
 
 // What is wrong, by terms.
 fn show_kind(proof: &Record, what: What) -> Result<FlawKind, AllocError>
-    requires { Shows (length proof.now.shapes) what }
+    requires { ShownBelow (length proof.now.shapes) what }
     ensures { IfOk result (λ k. kind_seen k ≡ kind_of proof.now.shapes what) }
 {
     Ok(match what {
@@ -31,7 +31,7 @@ fn show_types(
     have: usize,
     want: usize,
 ) -> Result<FlawKind, AllocError>
-    requires { Shows (length proof.now.shapes) (What.NotConvertible place have want) }
+    requires { ShownBelow (length proof.now.shapes) (What.NotConvertible place have want) }
     ensures { IfOk result (λ k. kind_seen k ≡ kind_of proof.now.shapes (What.NotConvertible place have want)) }
 {
     let have = proof.tree(have)?;
@@ -63,11 +63,11 @@ fn show_names(alloc: Global, given: &[Name], passed: Vec<Name>) -> Result<List<N
 }
 
 /// A flaw that was found.
-pub(crate) fn show_flaw(proof: &Record, names: &[Name], found: Found) -> Result<Flaw, AllocError>
-    requires { Shows (length proof.now.shapes) found.what }
+pub(crate) fn show_flaw(proof: &Record, names: &[Name], found: FoundFlaw) -> Result<Flaw, AllocError>
+    requires { ShownBelow (length proof.now.shapes) found.what }
     ensures { IfOk result (λ f. flaw_seen f ≡ behind names.now (flaw_of proof.now.shapes found)) }
 {
-    let Found {
+    let FoundFlaw {
         mut place,
         names: passed,
         what,
@@ -82,7 +82,7 @@ pub(crate) fn show_flaw(proof: &Record, names: &[Name], found: Found) -> Result<
 
 /// A fault of inference.
 pub(crate) fn show_fault(proof: &Record, names: &[Name], fault: Fault) -> InferFault
-    requires { Stand (length proof.now.shapes) fault }
+    requires { FaultStands (length proof.now.shapes) fault }
     ensures { ShownAs proof.now.shapes names.now fault result }
 {
     match fault {
@@ -98,7 +98,7 @@ pub(crate) fn show_fault(proof: &Record, names: &[Name], fault: Fault) -> InferF
 
 /// A fault of inference, as one of the judged term.
 pub(crate) fn show_judged(proof: &Record, names: &[Name], fault: Fault) -> FitFault
-    requires { Stand (length proof.now.shapes) fault }
+    requires { FaultStands (length proof.now.shapes) fault }
     ensures { ShownJudged proof.now.shapes names.now fault result }
 {
     match fault {
@@ -113,8 +113,8 @@ pub(crate) fn show_judged(proof: &Record, names: &[Name], fault: Fault) -> FitFa
 }
 
 // A flaw of the wanted type.
-fn show_wanted(proof: &Record, names: &[Name], found: Found) -> FitFault
-    requires { Shows (length proof.now.shapes) found.what }
+fn show_wanted(proof: &Record, names: &[Name], found: FoundFlaw) -> FitFault
+    requires { ShownBelow (length proof.now.shapes) found.what }
     ensures { ShownMisfit proof.now.shapes names.now (Misfit.Wanted found) result }
 {
     match show_flaw(proof, names, found) {
@@ -124,8 +124,8 @@ fn show_wanted(proof: &Record, names: &[Name], found: Found) -> FitFault
 }
 
 // A flaw of the judged term.
-fn show_own(proof: &Record, names: &[Name], found: Found) -> FitFault
-    requires { Shows (length proof.now.shapes) found.what }
+fn show_own(proof: &Record, names: &[Name], found: FoundFlaw) -> FitFault
+    requires { ShownBelow (length proof.now.shapes) found.what }
     ensures { ShownMisfit proof.now.shapes names.now (Misfit.Own found) result }
 {
     match show_flaw(proof, names, found) {

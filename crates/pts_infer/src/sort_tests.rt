@@ -10,7 +10,7 @@ ghost use Rattle.pts_rules.specs.Valid.{IsValid};
 ghost use Rattle.pts_infer_cost.specs.Typing.{as_sort};
 ghost use Rattle.pts_infer_cost.specs.Inference.{sort_tested};
 ghost use Rattle.pts_grow.specs.Keeps.{Compares, Keeps};
-ghost use Rattle.pts_grow.specs.Judges.{IsTyped, Judges};
+ghost use Rattle.pts_grow.specs.Judges.{IsTypedContext, Judges};
 ghost use Rattle.pts_reduce.specs.Given.{Later};
 ghost use Rattle.pts_reduce.specs.Chain.{entries_of};
 ghost use Rattle.pts_infer.specs.Given.{Gives};
@@ -39,7 +39,7 @@ pub(crate) fn sort_test_in(
     meter: &mut Meter,
 ) -> Result<Sorted, Fault>
     requires ctx { ctx < length proof.old.nodes }
-    requires typed { IsTyped proof.old ctx }
+    requires typed { IsTypedContext proof.old ctx }
     requires judged { Judges proof.old ctx judged }
     ensures runs { Gives proof.new.shapes (λ s. s.sort.0) result (left meter.new) (sort_tested system.now front.now.entries (entries_of proof.old ctx) (named_at proof.old.shapes judged.claim) (left meter.old)) }
     ensures subject { IfOk result (λ s. s.judged.subject ≡ judged.subject) }
@@ -66,7 +66,7 @@ fn sort_by_form(
     meter: &mut Meter,
 ) -> Result<Sorted, Fault>
     requires ctx { ctx < length proof.old.nodes }
-    requires typed { IsTyped proof.old ctx }
+    requires typed { IsTypedContext proof.old ctx }
     requires judged { Judges proof.old ctx judged }
     requires unsorted { as_sort (named_at proof.old.shapes judged.claim) ≡ None }
     ensures runs { Gives proof.new.shapes (λ s. s.sort.0) result (left meter.new) (sort_tested system.now front.now.entries (entries_of proof.old ctx) (named_at proof.old.shapes judged.claim) (left meter.old)) }
@@ -99,7 +99,7 @@ fn sort_reached(
     above: Sort,
 ) -> Result<Sorted, AllocError>
     requires ctx { ctx < length proof.old.nodes }
-    requires typed { IsTyped proof.old ctx }
+    requires typed { IsTypedContext proof.old ctx }
     requires judged { Judges proof.old ctx judged }
     requires form { Compares proof.old ctx (record { left = judged.claim; right = form.term; node = form.node }) }
     requires sort { named_at proof.old.shapes form.term ≡ sort_term sort.0 }

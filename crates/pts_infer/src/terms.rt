@@ -12,7 +12,7 @@ ghost use Rattle.pts_rules.specs.Valid.{IsValid, last_said, concludes_as};
 ghost use Rattle.pts_reduce_cost.specs.Laws.{WithinBudget};
 ghost use Rattle.pts_infer_cost.specs.Typing.{Fits, comes, inference_nesting};
 ghost use Rattle.pts_grow.specs.Keeps.{Keeps, StaysValid, IsTerm, WhyNot};
-ghost use Rattle.pts_grow.specs.Judges.{IsTyped, Judges};
+ghost use Rattle.pts_grow.specs.Judges.{IsTypedContext, Judges};
 ghost use Rattle.pts_reduce.specs.Given.{Later};
 ghost use Rattle.pts_reduce.specs.Chain.{entries_of};
 ghost use Rattle.pts_infer.specs.Given.{IsOpened, IsTooLarge, EitherLarge};
@@ -58,7 +58,7 @@ fn open(alloc: Global, term: &Term) -> Result<Opened, TermFault>
 #[tactic(auto, using(pts_grow::proofs::Grow::keeping, crate::proofs::Conclusions::concluded_by))]
 fn typed(proof: Record, ctx: usize, judged: Judged) -> Result<Typed, AllocError>
     requires ctx { ctx < length proof.nodes }
-    requires typed { IsTyped proof ctx }
+    requires typed { IsTypedContext proof ctx }
     requires empty { entries_of proof ctx ≡ [] }
     requires judged { Judges proof ctx judged }
     ensures ty { IfOk result (λ t. named t.ty ≡ named_at proof.shapes judged.claim) }
@@ -127,7 +127,7 @@ fn infer_opened(
 #[tactic(auto, using(pts_grow::proofs::Grow::keeping, crate::proofs::Conclusions::sorted_by))]
 fn closed_type(proof: Record, ctx: usize, sorted: Sorted) -> Result<Record, AllocError>
     requires ctx { ctx < length proof.nodes }
-    requires typed { IsTyped proof ctx }
+    requires typed { IsTypedContext proof ctx }
     requires empty { entries_of proof ctx ≡ [] }
     requires judged { Judges proof ctx sorted.judged }
     requires sort { named_at proof.shapes sorted.judged.claim ≡ sort_term sorted.sort.0 }
@@ -277,7 +277,7 @@ fn fit_judged(
     meter: &mut Meter,
 ) -> Result<Record, FitFault>
     requires ctx { ctx < length proof.nodes }
-    requires typed { IsTyped proof ctx }
+    requires typed { IsTypedContext proof ctx }
     requires empty { entries_of proof ctx ≡ [] }
     requires judged { Judges proof ctx judged }
     requires want { want < length proof.shapes }

@@ -5,9 +5,9 @@ ghost use Rattle.pts_record.specs.declared.shape.Shape.{Shape};
 ghost use Rattle.pts_record.specs.Table.{named_at};
 ghost use Rattle.pts_reduce_cost.specs.Run.{fails};
 ghost use Rattle.pts_infer_cost.specs.Typing.{here, into, under, unsorted, not_a_sort, not_product, judged, of_argument, of_definition};
-ghost use Rattle.pts_infer.specs.Given.{FoundAs, MisfitsWith, ToldAs, ToldWanted, ToldOf, Shows, kind_of};
+ghost use Rattle.pts_infer.specs.Given.{FoundAs, MisfitsWith, ToldAs, ToldWanted, ToldOf, ShownBelow, kind_of};
 
-use crate::fault::{Fault, Found, Misfit, What};
+use crate::fault::{Fault, FoundFlaw, Misfit, What};
 use pts_names::Name;
 use pts_record::Boxed;
 use std::alloc::Global;
@@ -15,9 +15,9 @@ use std::alloc::Global;
 /// A flaw that is here.
 #[tactic(auto, using(crate::proofs::Outwards::shown_here))]
 pub(crate) fn flaw_here(alloc: Global, what: What) -> Fault
-    ensures { (ss : List Shape) → Shows (length ss) what → FoundAs ss (here (kind_of ss what)) result }
+    ensures { (ss : List Shape) → ShownBelow (length ss) what → FoundAs ss (here (kind_of ss what)) result }
 {
-    let found = Found {
+    let found = FoundFlaw {
         place: Vec::new(alloc),
         names: Vec::new(alloc),
         what,
@@ -30,7 +30,7 @@ pub(crate) fn flaw_here(alloc: Global, what: What) -> Fault
 
 /// A flaw of a fit that is here.
 pub(crate) fn misfit_here(alloc: Global, what: What) -> Misfit
-    ensures { (ss : List Shape) (k : ℕ) → Shows (length ss) what → MisfitsWith {A = Unit {0}} ss result k (fails (judged (here (kind_of ss what))) k) }
+    ensures { (ss : List Shape) (k : ℕ) → ShownBelow (length ss) what → MisfitsWith {A = Unit {0}} ss result k (fails (judged (here (kind_of ss what))) k) }
 {
     match flaw_here(alloc, what) {
         Fault::Flawed(found) => Misfit::Own(found),
@@ -40,15 +40,15 @@ pub(crate) fn misfit_here(alloc: Global, what: What) -> Misfit
 
 // A found flaw, from the part with that number.
 #[tactic(auto, using(crate::proofs::Outwards::outwards))]
-fn outwards(alloc: Global, found: Boxed<Found>, part: u8) -> Fault
+fn outwards(alloc: Global, found: Boxed<FoundFlaw>, part: u8) -> Fault
     ensures { (ss : List Shape) → ToldAs (into part) ss (Fault.Flawed found) result }
 {
-    let Found { place, names, what } = found.into_inner();
+    let FoundFlaw { place, names, what } = found.into_inner();
     let mut place = place;
     if place.push(part).is_err() {
         return Fault::Memory;
     }
-    match Boxed::new(alloc, Found { place, names, what }) {
+    match Boxed::new(alloc, FoundFlaw { place, names, what }) {
         Ok(found) => Fault::Flawed(found),
         Err(_) => Fault::Memory,
     }
@@ -56,10 +56,10 @@ fn outwards(alloc: Global, found: Boxed<Found>, part: u8) -> Fault
 
 // A found flaw, from the part with that number behind a binder.
 #[tactic(auto, using(crate::proofs::Outwards::outwards_under))]
-fn outwards_under(alloc: Global, found: Boxed<Found>, part: u8, x: &Name) -> Fault
+fn outwards_under(alloc: Global, found: Boxed<FoundFlaw>, part: u8, x: &Name) -> Fault
     ensures { (ss : List Shape) → ToldAs (under part x.now) ss (Fault.Flawed found) result }
 {
-    let Found { place, names, what } = found.into_inner();
+    let FoundFlaw { place, names, what } = found.into_inner();
     let (mut place, mut names) = (place, names);
     let Ok(x) = x.copy() else {
         return Fault::Memory;
@@ -67,7 +67,7 @@ fn outwards_under(alloc: Global, found: Boxed<Found>, part: u8, x: &Name) -> Fau
     if place.push(part).is_err() || names.push(x).is_err() {
         return Fault::Memory;
     }
-    match Boxed::new(alloc, Found { place, names, what }) {
+    match Boxed::new(alloc, FoundFlaw { place, names, what }) {
         Ok(found) => Fault::Flawed(found),
         Err(_) => Fault::Memory,
     }

@@ -15,7 +15,7 @@ use Rattle.pts_rules.specs.Derives.{Derives, product, application, abstraction, 
 use Rattle.pts_rules.specs.WellFormed.{and_assumed, and_defined}
 use Rattle.pts_rules.proofs.HeadBare.{find_bare}
 use Rattle.pts_rules.proofs.Weakening.{sort_derives, const_derives, assumed_derives, defined_derives}
-use Rattle.pts_reduce_cost.specs.Costs.{Globals, Entries, Verdict, yes_, no_, beyond, Tests, nesting}
+use Rattle.pts_reduce_cost.specs.Costs.{Globals, Entries, TestAnswer, yes_, no_, beyond, Tests, nesting}
 use Rattle.pts_reduce_cost.proofs.Converts.{form_joined, yes_joined}
 use Rattle.pts_infer_cost.specs.Laws.{Has, Formed}
 use Rattle.pts_infer_cost.specs.Typing.{Flaw, FitFlaw, by_limits, Outcome, comes, stops, Typing, not_a_sort, refused, as_sort, as_product, type_at, made, by_axiom, by_rule, by_form, by_verdict, SortTest, at_once, form_too_large, form_tested, Infers, nested_too_deep, of_sort, of_constant, of_variable, function_stops, function_type_stops, argument_stops, argument_fit_stops, of_application, product_domain_stops, product_body_stops, of_product, domain_stops, body_stops, body_type_stops, of_abstraction, definition_stops, definition_fit_stops, definition_body_stops, of_definition_of_sort, definition_body_type_stops, of_local_definition, Sorts, term_stops, type_tested, Fits, equal_types, wanted_stops, types_tested, Products, is_product, product_too_large, no_product, product_stops, product_reached}
@@ -110,7 +110,7 @@ module _ (S : Specification) (G : Globals) where
   test_sorts {L} (form_tested {T} {v} {n} e r) l w t d = form_sorts L T v l w t d (form_joined G L T v n r)
 
   -- The test of the types of a fit.
-  verdict_fits : (L : Entries) (T W : Named) (v : Verdict) (s n : ℕ) → Tests G nesting L T W v n → Has S G L (bare W) (sort s) → FitsTo S G L T W (by_verdict T W v)
+  verdict_fits : (L : Entries) (T W : Named) (v : TestAnswer) (s n : ℕ) → Tests G nesting L T W v n → Has S G L (bare W) (sort s) → FitsTo S G L T W (by_verdict T W v)
   verdict_fits L T W yes_ s n c d = λ t h. conversion h d (yes_joined G nesting L T W n c)
   verdict_fits L T W (no_ place v w) s n c d = tt
   verdict_fits L T W beyond s n c d = tt

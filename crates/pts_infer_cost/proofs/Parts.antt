@@ -2,7 +2,7 @@
 use Rattle.std.proofs.Common.{◌≡◌, ℕ, ◌+◌, refl, sym, ap, ◌∙◌, subst, Bool, true, false, Option, Some, None}
 use Rattle.pts_terms.specs.Tree.{Named, bare, same_term}
 use Rattle.pts_ctx.specs.System.{Specification}
-use Rattle.pts_reduce_cost.specs.Costs.{Globals, Entries, form, too_large, Reduces, Verdict, yes_, no_, beyond, Tests, nesting}
+use Rattle.pts_reduce_cost.specs.Costs.{Globals, Entries, form, too_large, Reduces, TestAnswer, yes_, no_, beyond, Tests, nesting}
 use Rattle.pts_reduce_cost.specs.Run.{Run, ends, fails, deep, spent, paid, turned}
 use Rattle.pts_reduce_cost.specs.Work.{reduced, formed, Answer, tested}
 use Rattle.pts_reduce_cost.specs.Laws.{IsReduction, IsTest}
@@ -35,9 +35,9 @@ unfolding formed
 forms_right {F = F} G L t = record { reached = forms_reached G L t; came = λ b. forms_came F G L t b (reduced G L b t) (reduction_exact G L t b) }
 
 pub data Compared (G : Globals) (L : Entries) (T W : Named) : Outcome FitFlaw (Unit {0}) → ℕ → Type 0 where
-  compared : {v : Verdict} {n : ℕ} → Tests G nesting L T W v n → Compared G L T W (by_verdict T W v) n
+  compared : {v : TestAnswer} {n : ℕ} → Tests G nesting L T W v n → Compared G L T W (by_verdict T W v) n
 
-misfit_of : (T W : Named) (v : Verdict) (k : ℕ) → turned (misfit T W) (of_verdict v k) ≡ gives (by_verdict T W v) k
+misfit_of : (T W : Named) (v : TestAnswer) (k : ℕ) → turned (misfit T W) (of_verdict v k) ≡ gives (by_verdict T W v) k
 unfolding turned gives
 misfit_of T W yes_ k = refl
 misfit_of T W (no_ place v w) k = refl

@@ -11,7 +11,7 @@ use Rattle.pts_record.specs.Said.{bare_local}
 use Rattle.pts_rules.specs.Derives.{Legal}
 use Rattle.pts_rules.specs.WellFormed.{and_assumed, and_defined}
 use Rattle.pts_rules.proofs.Scoped.{judgement_scoped}
-use Rattle.pts_reduce_cost.specs.Costs.{Globals, Entries, Verdict, yes_, no_, beyond}
+use Rattle.pts_reduce_cost.specs.Costs.{Globals, Entries, TestAnswer, yes_, no_, beyond}
 use Rattle.pts_infer_cost.specs.Laws.{Has, Formed, KindBelow, FlawBelow, FitFlawBelow}
 use Rattle.pts_infer_cost.specs.Typing.{Flaw, here, into, under, unsorted, FitFlaw, wanted, judged, of_argument, of_definition, Stop, by_flaw, by_limits, Outcome, comes, stops, moved, Typing, not_a_sort, not_product, refused, made, by_axiom, by_rule, by_form, by_verdict, SortTest, at_once, form_too_large, form_tested, Infers, nested_too_deep, of_sort, of_constant, of_variable, function_stops, function_type_stops, argument_stops, argument_fit_stops, of_application, product_domain_stops, product_body_stops, of_product, domain_stops, body_stops, body_type_stops, of_abstraction, definition_stops, definition_fit_stops, definition_body_stops, of_definition_of_sort, definition_body_type_stops, of_local_definition, Sorts, term_stops, type_tested, Fits, equal_types, wanted_stops, types_tested, Products, is_product, product_too_large, no_product, product_stops, product_reached}
 use Rattle.pts_infer_cost.proofs.Derived.{inferred_types, sorts_types, fit_types, product_types_of}
@@ -100,7 +100,7 @@ form_below S n T (named_lam x A b) h = zero_more n T h
 form_below S n T (named_pi x A b) h = zero_more n T h
 form_below S n T (named_let x a A b) h = zero_more n T h
 
-verdict_below : (n : ℕ) (T W : Named) (v : Verdict) → Below n T → Below n W → FitBelow n (by_verdict T W v)
+verdict_below : (n : ℕ) (T W : Named) (v : TestAnswer) → Below n T → Below n W → FitBelow n (by_verdict T W v)
 verdict_below n T W yes_ h g = tt
 verdict_below n T W (no_ place v w) h g = (zero_more n T h, zero_more n W g)
 verdict_below n T W beyond h g = tt

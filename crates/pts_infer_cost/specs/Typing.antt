@@ -6,7 +6,7 @@ use Rattle.pts_terms.specs.Tree.{Named, bare, same_term, sort, const, var, app, 
 use Rattle.pts_terms.specs.Limits.{within}
 use Rattle.pts_ctx.specs.System.{Specification, axiom_of, rule_of}
 use Rattle.pts_ctx.specs.Front.{Global, find, Local, assumed, defined, unknown, entry_at}
-use Rattle.pts_reduce_cost.specs.Costs.{Globals, Entries, form, too_large, Reduces, Verdict, yes_, no_, beyond, Tests, nesting}
+use Rattle.pts_reduce_cost.specs.Costs.{Globals, Entries, form, too_large, Reduces, TestAnswer, yes_, no_, beyond, Tests, nesting}
 
 -- What may be wrong: a type that is no sort, and of no sort that has an axiom; a function's type that is no product; two
 -- sorts without a rule; a sort without an axiom; a type that isn't convertible with the wanted one, with the place of
@@ -110,7 +110,7 @@ by_form S T (sort s) = if is_some (axiom_of S s) then comes s else refused (not_
 by_form S T v = refused (not_a_sort T)
 
 -- What the test of the type T and the wanted type W says of the fit.
-abbrev pub by_verdict : Named → Named → Verdict → Outcome FitFlaw (Unit {0})
+abbrev pub by_verdict : Named → Named → TestAnswer → Outcome FitFlaw (Unit {0})
 by_verdict T W yes_ = comes tt
 by_verdict T W (no_ place v w) = stops (by_flaw (judged (here (not_convertible place T W))))
 by_verdict T W beyond = stops by_limits
@@ -158,7 +158,7 @@ mutual
   pub data Fits (S : Specification) (G : Globals) : ℕ → Entries → Named → Named → Outcome FitFlaw (Unit {0}) → ℕ → Type 0 where
     equal_types : {d : ℕ} {L : Entries} {T W : Named} → same_term (bare T) (bare W) ≡ true → Fits S G d L T W (comes tt) 1
     wanted_stops : {d : ℕ} {L : Entries} {T W : Named} {e : Stop Flaw} {n : ℕ} → same_term (bare T) (bare W) ≡ false → Sorts S G d L W (stops e) n → Fits S G d L T W (stops (moved wanted e)) (suc n)
-    types_tested : {d : ℕ} {L : Entries} {T W : Named} {v : Verdict} {s m n : ℕ} → same_term (bare T) (bare W) ≡ false → Sorts S G d L W (comes s) m → Tests G nesting L T W v n → Fits S G d L T W (by_verdict T W v) (suc (m + n))
+    types_tested : {d : ℕ} {L : Entries} {T W : Named} {v : TestAnswer} {s m n : ℕ} → same_term (bare T) (bare W) ≡ false → Sorts S G d L W (comes s) m → Tests G nesting L T W v n → Fits S G d L T W (by_verdict T W v) (suc (m + n))
 
   pub data Products (S : Specification) (G : Globals) : ℕ → Entries → Named → Outcome Flaw (Named × Named) → ℕ → Type 0 where
     is_product : {d : ℕ} {L : Entries} {F : Named} {P : Named × Named} → as_product F ≡ Some P → Products S G d L F (comes P) 0

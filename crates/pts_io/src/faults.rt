@@ -9,7 +9,7 @@ pub enum Fail {
 
 /// Why not all of a source could be read.
 #[derive(Clone, Copy, Debug, PartialEq, Eq, Error)]
-pub enum ReadFault {
+pub enum WholeFault {
     /// The source failed.
     #[error("the source failed")]
     Failed,

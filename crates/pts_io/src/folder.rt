@@ -2,7 +2,7 @@ ghost use Rattle.std.specs.Prelude.{◌≡◌, None, Ok, Err, IfOk};
 ghost use Rattle.pts_io.specs.Files.{IsWithin};
 ghost use Rattle.pts_io.specs.declared.libraries.Found.TheVariants.{Bytes, TooLong};
 
-use crate::faults::{ReadFail, ReadFault};
+use crate::faults::{ReadFail, WholeFault};
 use crate::libraries::{FILE_LIMIT, Found, Library};
 use crate::standard::StdSource;
 use crate::whole::read_whole;
@@ -66,16 +66,16 @@ fn read_file<R: Files>(rt: &R, alloc: Global, name: &str) -> Result<Found, ReadF
 }
 
 // What is found where an open file was read so. It is never that there is no file.
-fn found_by(read: Result<Vec<u8>, ReadFault>) -> Result<Found, ReadFail>
+fn found_by(read: Result<Vec<u8>, WholeFault>) -> Result<Found, ReadFail>
     ensures bytes { IfOk read (λ bytes. result ≡ Ok (Bytes bytes)) }
-    ensures too_long { read ≡ Err ReadFault.TooMuch → result ≡ Ok TooLong }
-    ensures failed { read ≡ Err ReadFault.Failed → result ≡ Err ReadFail.Failed }
-    ensures memory { read ≡ Err ReadFault.Memory → result ≡ Err ReadFail.Memory }
+    ensures too_long { read ≡ Err WholeFault.TooMuch → result ≡ Ok TooLong }
+    ensures failed { read ≡ Err WholeFault.Failed → result ≡ Err ReadFail.Failed }
+    ensures memory { read ≡ Err WholeFault.Memory → result ≡ Err ReadFail.Memory }
 {
     match read {
         Ok(bytes) => Ok(Found::Bytes(bytes)),
-        Err(ReadFault::TooMuch) => Ok(Found::TooLong),
-        Err(ReadFault::Failed) => Err(ReadFail::Failed),
-        Err(ReadFault::Memory) => Err(ReadFail::Memory),
+        Err(WholeFault::TooMuch) => Ok(Found::TooLong),
+        Err(WholeFault::Failed) => Err(ReadFail::Failed),
+        Err(WholeFault::Memory) => Err(ReadFail::Memory),
     }
 }

@@ -15,7 +15,7 @@ mod sources;
 mod standard;
 mod whole;
 
-pub use faults::{Fail, ReadFail, ReadFault};
+pub use faults::{Fail, ReadFail, WholeFault};
 pub use folder::FolderLibrary;
 pub use libraries::{FILE_LIMIT, Found, Library};
 pub use lines::{Input, LINE_LIMIT, LineReader};

@@ -3,7 +3,7 @@ ghost use Rattle.std.specs.Option.{option_map};
 ghost use Rattle.std.specs.Io.KnownBytes.{prepend_known, append_known, IsAtEnd};
 ghost use Rattle.pts_io.specs.Counts.{raised, Rose};
 
-use crate::faults::{Fail, ReadFault};
+use crate::faults::{Fail, WholeFault};
 use crate::sinks::Sink;
 use crate::sources::Source;
 use std::alloc::{AllocError, Global};
@@ -21,9 +21,9 @@ pub fn read_whole<S: Source>(
     alloc: Global,
     source: &mut S,
     limit: usize,
-) -> Result<Vec<u8>, ReadFault>
+) -> Result<Vec<u8>, WholeFault>
     ensures never_falls { S.faults source.old ≤ S.faults source.new }
-    ensures moved { result ≢ Err ReadFault.TooMuch → (n : ℕ) × (n ≤ limit)
+    ensures moved { result ≢ Err WholeFault.TooMuch → (n : ℕ) × (n ≤ limit)
         × (S.given source.new ≡ raised (S.given source.old) n)
         × (S.left source.new ≡ option_map (λ all. drop n all) (S.left source.old)) }
 
@@ -33,29 +33,29 @@ pub fn read_whole<S: Source>(
     ensures read { IfOk result (λ bytes. IfSome (S.left source.old) (λ all. bytes.items ≡ all)) }
     ensures end { OnOk result (IsAtEnd (S.left source.new)) }
 
-    ensures too_much_faults { result ≡ Err ReadFault.TooMuch → S.faults source.new ≡ S.faults source.old }
-    ensures too_much_given { result ≡ Err ReadFault.TooMuch → S.given source.new ≡ raised (S.given source.old) (limit + 1) }
-    ensures too_much_taken { result ≡ Err ReadFault.TooMuch → S.left source.new ≡ option_map (λ all. drop (limit + 1) all) (S.left source.old) }
-    ensures too_much_left { result ≡ Err ReadFault.TooMuch → IfSome (S.left source.old) (λ all. limit < length all) }
-    ensures failed { result ≡ Err ReadFault.Failed → Rose (S.faults source.old) (S.faults source.new) }
+    ensures too_much_faults { result ≡ Err WholeFault.TooMuch → S.faults source.new ≡ S.faults source.old }
+    ensures too_much_given { result ≡ Err WholeFault.TooMuch → S.given source.new ≡ raised (S.given source.old) (limit + 1) }
+    ensures too_much_taken { result ≡ Err WholeFault.TooMuch → S.left source.new ≡ option_map (λ all. drop (limit + 1) all) (S.left source.old) }
+    ensures too_much_left { result ≡ Err WholeFault.TooMuch → IfSome (S.left source.old) (λ all. limit < length all) }
+    ensures failed { result ≡ Err WholeFault.Failed → Rose (S.faults source.old) (S.faults source.new) }
 {
-    let mut storage = piece_buffer(alloc).map_err(|_| ReadFault::Memory)?;
+    let mut storage = piece_buffer(alloc).map_err(|_| WholeFault::Memory)?;
     let buffer = storage.as_mut_slice();
     let mut bytes = Vec::new(alloc);
     'turns: loop {
         let room = limit - bytes.len();
         let wanted = room.min(PIECE - 1) + 1;
         let Ok(count) = source.take(&mut buffer[..wanted]) else {
-            return Err(ReadFault::Failed);
+            return Err(WholeFault::Failed);
         };
         if count == 0 {
             return Ok(bytes);
         }
         if count > room {
-            return Err(ReadFault::TooMuch);
+            return Err(WholeFault::TooMuch);
         }
         let Ok(()) = bytes.extend_from_slice(&buffer[..count]) else {
-            return Err(ReadFault::Memory);
+            return Err(WholeFault::Memory);
         };
     }
 }

@@ -15,7 +15,7 @@ use Rattle.pts_lines.specs.declared.command.Command.{Command}
 use Rattle.pts_lines.specs.Lines.{Line, Follows, LineReads, a_line}
 use Rattle.pts_lines.specs.Seen.{deepest, terms_of}
 use Rattle.pts_lines.specs.Refusals.{CanGoOn, Wants, Refused, at_token, at_end, TooMany, too_many, NoneTooMany, FirstTooMany, first_too_many}
-use Rattle.pts_lines.specs.Reading.{Behind, IsLine, RefusesLine, no_word, no_command, behind_word, many_open, deep_term, IsRefused, RefusesText, LineRefusalsAreDetermined, LinesAreNotRefused}
+use Rattle.pts_lines.specs.Reading.{Behind, IsLine, RefusesLine, no_word, no_command, behind_word, many_open, deep_term, IsRefusedLine, RefusesText, LineRefusalsAreDetermined, LinesAreNotRefused}
 use Rattle.pts_lines.proofs.Marks.{nothing_marked, Marks, same_mark, sooner, later, marks, front_goes}
 use Rattle.pts_lines.proofs.Wanted.{OneKind}
 use Rattle.pts_lines.proofs.Rows.{behind_one}
@@ -133,10 +133,10 @@ no_tokens : (text : List ℕ) (ts : List Spot) (e : TokenFault) → tokens_from 
 no_tokens text ts e p q = absurd (cc (sym p ∙ q))
 
 module _ (words : Name → Option Command) (text : List ℕ) where
-  grammar_once : (e f : ReadFault) → IsRefused words text e → IsRefused words text f → e ≡ f
+  grammar_once : (e f : ReadFault) → IsRefusedLine words text e → IsRefusedLine words text f → e ≡ f
   grammar_once e f (ts, g, d) (us, h, r) = once words (length text) d (subst (λ x. RefusesLine words (length text) x f) (same_tokens text us ts h g) r)
 
-  no_refusal : (e : ReadFault) (fault : TokenFault) → tokens_from text 0 ≡ Err fault → ¬ IsRefused words text e
+  no_refusal : (e : ReadFault) (fault : TokenFault) → tokens_from text 0 ≡ Err fault → ¬ IsRefusedLine words text e
   no_refusal e fault h (ts, g, d) = no_tokens text ts fault g h
 
   text_once : (e f : ReadFault) → e ≢ Memory → f ≢ Memory → RefusesText words text e → RefusesText words text f → e ≡ f
@@ -163,7 +163,7 @@ module _ (words : Name → Option Command) (text : List ℕ) where
   text_once e (UnknownSort p x) n m g h = absurd h
   text_once e Memory n m g h = absurd (m refl)
 
-  grammar_never : (ts : List Spot) (L : Line) (e : ReadFault) → tokens_from text 0 ≡ Ok ts → LineReads words ts L → NoneTooMany (IsLine words) 2000 ts → deepest (terms_of L) ≤ 2000 → ¬ IsRefused words text e
+  grammar_never : (ts : List Spot) (L : Line) (e : ReadFault) → tokens_from text 0 ≡ Ok ts → LineReads words ts L → NoneTooMany (IsLine words) 2000 ts → deepest (terms_of L) ≤ 2000 → ¬ IsRefusedLine words text e
   grammar_never ts L e g r none low (us, h, d) = never words (length text) r none low (subst (λ x. RefusesLine words (length text) x e) (same_tokens text us ts h g) d)
 
 pub refused_once_only : LineRefusalsAreDetermined

@@ -13,11 +13,11 @@ use Rattle.pts_parser.specs.Reading.{tokens_from}
 use Rattle.pts_parser.specs.Resolution.{UnlessMemory, and_then}
 use Rattle.pts_lines.specs.declared.command.Command.{Command}
 use Rattle.pts_lines.specs.declared.command.Declaring.{Declaring}
-use Rattle.pts_lines.specs.declared.declaration.Declaration.{Declaration}
+use Rattle.pts_lines.specs.declared.declaration.DeclaringLine.{DeclaringLine}
 use Rattle.pts_lines.specs.Words.{command, declared, declaring, rest_of}
 use Rattle.pts_lines.specs.Lines.{Line, Follows, LineReads, a_line, DeclarationReads, a_declaration}
 use Rattle.pts_lines.specs.Seen.{line_of, declaration_of, deepest, terms_of}
-use Rattle.pts_lines.specs.Reading.{Behind, IsLine, RefusesLine, no_word, no_command, behind_word, many_open, deep_term, Says, Declares, RefusesText, FewOpen, after_tokens, line_said, declaration_said}
+use Rattle.pts_lines.specs.Reading.{Behind, IsLine, RefusesLine, no_word, no_command, behind_word, many_open, deep_term, SaysLine, SaysDeclaration, RefusesText, FewOpen, after_tokens, line_said, declaration_said}
 use Rattle.pts_lines.specs.Forms.{AnswersAs, run_command, run_line, run_declaration}
 use Rattle.pts_lines.specs.declared.line.Line.{Line as TheLine}
 use Rattle.pts_lines.specs.Forms as forms
@@ -142,7 +142,7 @@ declaration_told size ((p, t) ∷ us) = no_command (λ w c e h. absurd (cc e))
 
 -- A call's answer, that is the reader's.
 module _ (text : List ℕ) (ts : List Spot) (e : tokens_from text 0 ≡ Ok ts) where
-  pub says : (r : Result TheLine ReadFault) → AnswersAs line_of r (run_line within more (length text) ts) → IfOk r (λ l. Says text (line_of l))
+  pub says : (r : Result TheLine ReadFault) → AnswersAs line_of r (run_line within more (length text) ts) → IfOk r (λ l. SaysLine text (line_of l))
   says (Ok l) h = (ts, e, (subst (λ r. LineTold command (length text) ts r) h (line_told (length text) ts)).0)
   says (Err f) h = tt
 
@@ -158,26 +158,26 @@ module _ (text : List ℕ) (ts : List Spot) (e : tokens_from text 0 ≡ Ok ts) w
   refuses (Ok l) h = tt
   refuses (Err f) h = text_refused command text ts f e (unless f (λ q. subst (λ r. LineTold command (length text) ts r) q (line_told (length text) ts)) h)
 
-  pub declares : (r : Result Declaration ReadFault) → AnswersAs declaration_of r (run_declaration within more (length text) ts) → IfOk r (λ d. Declares text (declaration_of d))
+  pub declares : (r : Result DeclaringLine ReadFault) → AnswersAs declaration_of r (run_declaration within more (length text) ts) → IfOk r (λ d. SaysDeclaration text (declaration_of d))
   declares (Ok d) h = (ts, e, (subst (λ r. DeclarationTold (length text) ts r) h (declaration_told (length text) ts)).0)
   declares (Err f) h = tt
 
-  pub declares_shallow : (r : Result Declaration ReadFault) → AnswersAs declaration_of r (run_declaration within more (length text) ts) → IfOk r (λ d. deepest (terms_of (declaration_of d).1) ≤ 2000)
+  pub declares_shallow : (r : Result DeclaringLine ReadFault) → AnswersAs declaration_of r (run_declaration within more (length text) ts) → IfOk r (λ d. deepest (terms_of (declaration_of d).1) ≤ 2000)
   declares_shallow (Ok d) h = (subst (λ r. DeclarationTold (length text) ts r) h (declaration_told (length text) ts)).1
   declares_shallow (Err f) h = tt
 
-  pub declaration_few : (r : Result Declaration ReadFault) → AnswersAs declaration_of r (run_declaration within more (length text) ts) → OnOk r (FewOpen declaring text)
+  pub declaration_few : (r : Result DeclaringLine ReadFault) → AnswersAs declaration_of r (run_declaration within more (length text) ts) → OnOk r (FewOpen declaring text)
   declaration_few (Ok d) h = (ts, e, (subst (λ r. DeclarationTold (length text) ts r) h (declaration_told (length text) ts)).2)
   declaration_few (Err f) h = tt
 
-  pub declares_not : (r : Result Declaration ReadFault) → AnswersAs declaration_of r (run_declaration within more (length text) ts) → IfErr r (λ f. RefusesText declaring text f)
+  pub declares_not : (r : Result DeclaringLine ReadFault) → AnswersAs declaration_of r (run_declaration within more (length text) ts) → IfErr r (λ f. RefusesText declaring text f)
   declares_not (Ok d) h = tt
   declares_not (Err f) h = text_refused declaring text ts f e (unless f (λ q. subst (λ r. DeclarationTold (length text) ts r) q (declaration_told (length text) ts)) h)
 
   pub line_exact : (r : Result TheLine ReadFault) → AnswersAs line_of r (run_line within more (length text) ts) → AnswersAs line_of r (line_said text)
   line_exact r h = subst (λ x. AnswersAs line_of r (after_tokens x (run_line within more (length text)))) (sym e) h
 
-  pub declaration_exact : (r : Result Declaration ReadFault) → AnswersAs declaration_of r (run_declaration within more (length text) ts) → AnswersAs declaration_of r (declaration_said text)
+  pub declaration_exact : (r : Result DeclaringLine ReadFault) → AnswersAs declaration_of r (run_declaration within more (length text) ts) → AnswersAs declaration_of r (declaration_said text)
   declaration_exact r h = subst (λ x. AnswersAs declaration_of r (after_tokens x (run_declaration within more (length text)))) (sym e) h
 
 -- The front of a text up to a place that may lie behind its end.

@@ -4,7 +4,7 @@ use Rattle.pts_tokens.specs.declared.token.Token.TheVariants.{Open}
 use Rattle.pts_tokens.specs.Tokens.{Spot}
 use Rattle.pts_grammar.specs.Syntax.{Syntax}
 use Rattle.pts_grammar.specs.Grammar.{Reads}
-use Rattle.pts_grammar.specs.Machine.{syntax, State, begin, Move, go, stay, fail, deep, Outcome, read, too_deep, step, run}
+use Rattle.pts_grammar.specs.Machine.{syntax, State, begin, Move, go, stay, fail, deep, ParseOutcome, read, too_deep, step, run}
 use Rattle.pts_grammar.specs.Open.{more}
 use Rattle.pts_grammar.specs.Refusals as grammar
 use Rattle.pts_grammar.proofs.Complete.{follow, Ends, continues, Agrees, exactly, cut_off}
@@ -40,7 +40,7 @@ comes [] us T rest S h = comes_to S refl
 comes (t ∷ vs) us T rest S h = comes_move t vs us T rest S (λ Q q. comes vs us T rest Q q) (step syntax always S t) refl h
 
 -- None is in tokens with which the machine comes behind no term, if it is not cut off.
-pub none_inside : (Is : List Spot → Type 0) (begins : (ts : List Spot) → Is ts → (T : Syntax) × (rest : List Spot) × (run syntax always 0 (begin []) ts ≡ read T rest)) (size : ℕ) (ts : List Spot) (o : Outcome Syntax) → run syntax more size (begin []) ts ≡ o → ((q : ℕ) → ¬ (o ≡ too_deep q)) → ((T : Syntax) (x : Spot) (ws : List Spot) → ¬ (o ≡ read T (x ∷ ws))) → NoneTooMany Is 2000 ts
+pub none_inside : (Is : List Spot → Type 0) (begins : (ts : List Spot) → Is ts → (T : Syntax) × (rest : List Spot) × (run syntax always 0 (begin []) ts ≡ read T rest)) (size : ℕ) (ts : List Spot) (o : ParseOutcome Syntax) → run syntax more size (begin []) ts ≡ o → ((q : ℕ) → ¬ (o ≡ too_deep q)) → ((T : Syntax) (x : Spot) (ws : List Spot) → ¬ (o ≡ read T (x ∷ ws))) → NoneTooMany Is 2000 ts
 none_inside Is begins size ts o e shallow whole p (too_many vs us s (xs, d) n) = let b = begins _ d in by b.0 b.1 (comes (vs ++ (p, Open) ∷ []) xs b.0 b.1 (begin []) b.2)
   where
     behind : (T : Syntax) (x : Spot) (ws : List Spot) → run syntax always size (begin []) ts ≡ read T (x ∷ ws) → Agrees (run syntax more size (begin []) ts) (run syntax always size (begin []) ts) → ⊥

@@ -10,7 +10,7 @@ use Rattle.pts_grammar.specs.declared.kind.Kind.TheVariants as kind
 use Rattle.pts_grammar.specs.Syntax.{Syntax}
 use Rattle.pts_names.specs.Name.{underscore}
 use Rattle.pts_grammar.specs.Machine.{syntax, State, begin, read, at_end as end_of, run}
-use Rattle.pts_grammar.specs.Seen.{Part, within}
+use Rattle.pts_grammar.specs.Seen.{Subtree, within}
 use Rattle.pts_grammar.proofs.Complete.{Ends, continues}
 use Rattle.pts_grammar.proofs.Sound.{always}
 use Rattle.pts_grammar.proofs.Reach.{reach}
@@ -18,7 +18,7 @@ use Rattle.pts_grammar.proofs.Refusals.{ended_here}
 use Rattle.pts_lines.specs.Items.{Item, plain, label, placed, number, colon, assign, semicolon, sign, Value, wanted, said}
 use Rattle.pts_lines.specs.Lines.{last_term, more_terms}
 use Rattle.pts_lines.specs.Refusals.{CanFollow, Wants, the_end, an_assign, a_colon, a_semicolon, a_dot, an_in, a_close, a_number, a_name, a_plain, a_term}
-use Rattle.pts_lines.specs.Forms.{Sign, item_of, Form, ends, item, term, term_then, terms, is_semicolon}
+use Rattle.pts_lines.specs.Forms.{Sign, item_of, LineForm, ends, item, term, term_then, terms, is_semicolon}
 use Rattle.pts_lines.proofs.Frames.{reads_shorter}
 use Rattle.pts_lines.proofs.Letter.{underscore_is_none, underscore_is_no_label}
 use Rattle.pts_lines.proofs.Machine.{Pending, pending_or_whole, read_freely}
@@ -71,10 +71,10 @@ several_one (suc n) (s ∷ vs) h k j c w v = let b = several_begins _ c.1 in sev
 several_one zero (s ∷ vs) h k j c w v = absurd (omega arith)
 
 -- Any number of terms.
-any_sort : {R : Type 0} (F : List Part → Option R) → CanFollow (Texts (terms F)) [] (Sort (codes "*"))
+any_sort : {R : Type 0} (F : List Subtree → Option R) → CanFollow (Texts (terms F)) [] (Sort (codes "*"))
 any_sort F = let c = begun 0 (Sort (codes "*")) refl in (c.0, any_to 0 F _ c.1)
 
-any_kind : {R : Type 0} (F : List Part → Option R) (k : Kind) → Wants (Texts (terms F)) [] k → k ≡ kind.End
+any_kind : {R : Type 0} (F : List Subtree → Option R) (k : Kind) → Wants (Texts (terms F)) [] k → k ≡ kind.End
 any_kind F _ (the_end d) = refl
 any_kind F _ (an_assign n c) = absurd (n (F [], inl (refl, refl)))
 any_kind F _ (a_colon n m c) = absurd (n (F [], inl (refl, refl)))
@@ -87,7 +87,7 @@ any_kind F _ (a_name c n) = absurd (n (codes "*") (any_sort F))
 any_kind F _ (a_plain x c m n) = absurd (n (codes "*") (any_sort F))
 any_kind F _ (a_term s c n1 n2 n3 n4 n5 n6 n) = absurd (n (F [], inl (refl, refl)))
 
-any_one : {R : Type 0} (F : List Part → Option R) (vs : List Spot) → OneKind (Texts (terms F)) vs
+any_one : {R : Type 0} (F : List Subtree → Option R) (vs : List Spot) → OneKind (Texts (terms F)) vs
 any_one F [] k j c w v = any_kind F k w ∙ sym (any_kind F j v)
 any_one F (s ∷ vs) k j (us, d) w v = several_one (length (s ∷ vs)) (s ∷ vs) (omega arith) k j (us, any_from 0 F s _ d) (rest w) (rest v)
   where
@@ -95,14 +95,14 @@ any_one F (s ∷ vs) k j (us, d) w v = several_one (length (s ∷ vs)) (s ∷ vs
     rest = wants_to Several (Texts (terms F)) (s ∷ vs) (s ∷ vs) (λ ys d. any_from 0 F s _ d) (λ ys d. any_to 0 F _ d)
 
 -- A term.
-term_stops : {R : Type 0} (F : Part → Option R) (ts : List Spot) → Texts (term F) ts → (T : Syntax) (s : Spot) (us : List Spot) → run syntax always 0 (begin []) ts ≡ read T (s ∷ us) → ⊥
+term_stops : {R : Type 0} (F : Subtree → Option R) (ts : List Spot) → Texts (term F) ts → (T : Syntax) (s : Spot) (us : List Spot) → run syntax always 0 (begin []) ts ≡ read T (s ∷ us) → ⊥
 unfolding Ends
 term_stops F ts (o, (U, d, h)) T s us e =
     let m : read U [] ≡ read T (s ∷ us) = sym (read_freely 0 ts [] U d tt) ∙ e in
     let r : [] ≡ s ∷ us = cc m in
     cc r
 
-term_one : {R : Type 0} (F : Part → Option R) (vs : List Spot) → OneKind (Texts (term F)) vs
+term_one : {R : Type 0} (F : Subtree → Option R) (vs : List Spot) → OneKind (Texts (term F)) vs
 term_one F vs k j c w v = let b = term_begins 0 F _ c.1 in by b.0 b.1 (comes vs c.0 b.0 b.1 (begin []) b.2)
   where
     here : (R : State Syntax) → reach (begin []) vs ≡ Some R → Pending R ⊎ ((U : Syntax) × (end_of syntax 0 R ≡ read U [])) → k ≡ j
@@ -116,21 +116,21 @@ term_one F vs k j c w v = let b = term_begins 0 F _ c.1 in by b.0 b.1 (comes vs 
     by T rest (comes_behind x ws r f) = absurd (term_stops F (vs ++ c.0) c.1 T x (ws ++ c.0) (f 0 c.0))
 
 -- A term and a sign behind it.
-then_stops : {R : Type 0} (a : Sign) (F : Part → Form R) (ts : List Spot) → Texts (term_then a F) ts → (T : Syntax) (s : Spot) (us : List Spot) → run syntax always 0 (begin []) ts ≡ read T (s ∷ us) → s.1 ≡ sign_of a
+then_stops : {R : Type 0} (a : Sign) (F : Subtree → LineForm R) (ts : List Spot) → Texts (term_then a F) ts → (T : Syntax) (s : Spot) (us : List Spot) → run syntax always 0 (begin []) ts ≡ read T (s ∷ us) → s.1 ≡ sign_of a
 then_stops a F ts (o, (U, x, xs, d, e, g)) T s us h =
     let m : read U (x ∷ xs) ≡ read T (s ∷ us) = sym (read_freely 0 ts (x ∷ xs) U d (stops_at a x xs e)) ∙ h in
     let l : x ∷ xs ≡ s ∷ us = cc m in
     let q : x ≡ s = cc l in
     ap (λ y. y.1) (sym q) ∙ e
 
-then_here : {R : Type 0} (a : Sign) (F : Part → Form R) (vs : List Spot) (Q : State Syntax) → reach (begin []) vs ≡ Some Q → Pending Q ⊎ ((U : Syntax) × (end_of syntax 0 Q ≡ read U [])) → OneKind (Texts (term_then a F)) vs
+then_here : {R : Type 0} (a : Sign) (F : Subtree → LineForm R) (vs : List Spot) (Q : State Syntax) → reach (begin []) vs ≡ Some Q → Pending Q ⊎ ((U : Syntax) × (end_of syntax 0 Q ≡ read U [])) → OneKind (Texts (term_then a F)) vs
 then_here a F vs Q e (inl h) k j c w v = pending_kind (Texts (term_then a F)) (then_inside 0 a F) (then_begins 0 a F) (λ t. t ≡ sign_of a) (then_stops a F) vs Q e h k j w v
 then_here a F vs Q e (inr (U, g)) k j c w v = signs k w ∙ sym (signs j v)
   where
     signs : (i : Kind) → Wants (Texts (term_then a F)) vs i → i ≡ wanted (item_of a)
     signs = sign_kind (Texts (term_then a F)) (then_inside 0 a F) (then_begins 0 a F) a (then_stops a F) vs Q e U g (not_ended 0 a F vs U (ended_here vs Q e U g)) (closed 0 a F vs U (ended_here vs Q e U g))
 
-then_one : {R : Type 0} (a : Sign) (F : Part → Form R) (vs : List Spot) → ((P : Part) (ws : List Spot) → OneKind (Texts (F P)) ws) → OneKind (Texts (term_then a F)) vs
+then_one : {R : Type 0} (a : Sign) (F : Subtree → LineForm R) (vs : List Spot) → ((P : Subtree) (ws : List Spot) → OneKind (Texts (F P)) ws) → OneKind (Texts (term_then a F)) vs
 then_one a F vs ih k j c w v = let b = then_begins 0 a F _ c.1 in by b.0 b.1 (comes vs c.0 b.0 b.1 (begin []) b.2)
   where
     by : (T : Syntax) (rest : List Spot) → Comes (begin []) vs c.0 T rest → k ≡ j
@@ -186,7 +186,7 @@ underscore_kind assign v e = absurd (cc e)
 underscore_kind semicolon v e = absurd (cc e)
 underscore_kind sign v e = absurd (cc e)
 
-module _ {R : Type 0} (i : Item) (F : Value i → Form R) where
+module _ {R : Type 0} (i : Item) (F : Value i → LineForm R) where
   token_kind : (t : Token) → CanFollow (Texts (item i F)) [] t → (kind_of t ≡ wanted i) ⊎ Other i t
   token_kind t (us, (o, (v, e, d))) = said_kind i t v e
 
@@ -199,13 +199,13 @@ no_other _ _ n m any_name = m _ refl
 no_other _ _ n m first_sign = n refl
 
 -- Where one of the two stands, another can.
-other_sign : {R : Type 0} (i : Item) (F : Value i → Form R) → Other i Colon → CanFollow (Texts (item i F)) [] Assign
+other_sign : {R : Type 0} (i : Item) (F : Value i → LineForm R) → Other i Colon → CanFollow (Texts (item i F)) [] Assign
 other_sign _ F first_sign = can sign F Assign false refl
 
-other_name : {R : Type 0} (i : Item) (F : Value i → Form R) (x : List ℕ) → Other i (Word x) → CanFollow (Texts (item i F)) [] (Word underscore)
+other_name : {R : Type 0} (i : Item) (F : Value i → LineForm R) (x : List ℕ) → Other i (Word x) → CanFollow (Texts (item i F)) [] (Word underscore)
 other_name _ F x any_name = can placed F (Word underscore) (0, underscore) refl
 
-item_kind : {R : Type 0} (i : Item) (F : Value i → Form R) (k : Kind) → Wants (Texts (item i F)) [] k → k ≡ wanted i
+item_kind : {R : Type 0} (i : Item) (F : Value i → LineForm R) (k : Kind) → Wants (Texts (item i F)) [] k → k ≡ wanted i
 unfolding kind_of
 item_kind i F _ (the_end d) = absurd (empty i F d)
 item_kind i F _ (an_assign n c) = same_kind i Assign (no_other i Assign (λ h. cc h) (λ x h. cc h)) (token_kind i F Assign c)
@@ -219,7 +219,7 @@ item_kind i F _ (a_name (us, (o, (v, e, d))) n) = underscore_kind i v e
 item_kind i F _ (a_plain x c m n) = same_kind i (Word x) (λ o. m (other_name i F x o)) (token_kind i F (Word x) c)
 item_kind i F _ (a_term s c n1 n2 n3 n4 n5 n6 n) = same_kind i (Sort s) (no_other i (Sort s) (λ h. cc h) (λ x h. cc h)) (token_kind i F (Sort s) c)
 
-item_one : {R : Type 0} (i : Item) (F : Value i → Form R) (vs : List Spot) → ((v : Value i) (ws : List Spot) → OneKind (Texts (F v)) ws) → OneKind (Texts (item i F)) vs
+item_one : {R : Type 0} (i : Item) (F : Value i → LineForm R) (vs : List Spot) → ((v : Value i) (ws : List Spot) → OneKind (Texts (F v)) ws) → OneKind (Texts (item i F)) vs
 item_one i F [] ih k j c w v = item_kind i F k w ∙ sym (item_kind i F j v)
 item_one i F (s ∷ ws) ih k j (us, (o, (x, e, d))) w v = one_behind (Texts (item i F)) (Texts (F x)) (s ∷ []) (item_to 0 i F s x e) (item_from 0 i F s x e) (s ∷ ws) ws refl (ih x ws) k j (us, (o, (x, e, d))) w v
 
@@ -242,7 +242,7 @@ ends_one o [] k j c w v = ends_kind o k w ∙ sym (ends_kind o j v)
 ends_one o (s ∷ vs) k j (us, d) w v = absurd (no_more 0 o s (vs ++ us, d))
 
 -- Each form.
-pub one_kind : {R : Type 0} (F : Form R) (vs : List Spot) → OneKind (Texts F) vs
+pub one_kind : {R : Type 0} (F : LineForm R) (vs : List Spot) → OneKind (Texts F) vs
 one_kind (ends o) vs = ends_one o vs
 one_kind (item i F) vs = item_one i F vs (λ v ws. one_kind (F v) ws)
 one_kind (term F) vs = term_one F vs

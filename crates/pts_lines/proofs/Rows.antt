@@ -14,12 +14,12 @@ use Rattle.pts_lines.specs.declared.command.Alone.{Alone}
 use Rattle.pts_lines.specs.declared.command.Named.{Named}
 use Rattle.pts_lines.specs.declared.command.Placed.{Placed}
 use Rattle.pts_lines.specs.declared.command.Asked.{Asked}
-use Rattle.pts_lines.specs.declared.command.Typed.{Typed}
+use Rattle.pts_lines.specs.declared.command.WithType.{WithType}
 use Rattle.pts_lines.specs.declared.command.Command.{Command}
 use Rattle.pts_lines.specs.declared.command.Command.TheVariants.{OfNothing, OfPlain, OfName, OfTerm, OfType, Rename, Budget, Equal, Define, Instance}
 use Rattle.pts_lines.specs.Lines.{Line, alone, of_plain, of_name, of_term, of_type, renaming, budget, equality, definition, instantiation, Terms, Follows, nothing, a_plain, a_name, a_term, a_type, two_names, a_number, two_terms, untyped, with_type, no_terms, some_terms}
 use Rattle.pts_lines.specs.Reading.{Behind}
-use Rattle.pts_lines.specs.Forms.{Form, run_form, run_command, alone_form, plain_form, placed_form, number_form, names_form, term_form, typed_form, terms_form, body_form, definition_form, instance_form, pair, all_of}
+use Rattle.pts_lines.specs.Forms.{LineForm, run_form, run_command, alone_form, plain_form, placed_form, number_form, names_form, term_form, typed_form, terms_form, body_form, definition_form, instance_form, pair, all_of}
 use Rattle.pts_lines.specs.Refusals.{NoneTooMany}
 use Rattle.pts_lines.proofs.Languages.{none_of_nothing, lift_refused, lift_none, lift_first}
 use Rattle.pts_lines.proofs.Fits.{Fits, Texts}
@@ -34,7 +34,7 @@ behind_of : (c : Command) (ts : List Spot) (o : Option Line) → Gives c ts o �
 behind_of c ts (Some L) d = (L, d.0)
 behind_of c ts None d = (d.0, d.1)
 
-module _ {R : Type 0} (size : ℕ) (c : Command) (F : Form R) (make : R → Line) (to : (ts : List Spot) (o : Option R) → Fits F ts o → Gives c ts (option_map make o)) (from : (ts : List Spot) (L : Line) → Follows c ts L → Texts F ts) where
+module _ {R : Type 0} (size : ℕ) (c : Command) (F : LineForm R) (make : R → Line) (to : (ts : List Spot) (o : Option R) → Fits F ts o → Gives c ts (option_map make o)) (from : (ts : List Spot) (L : Line) → Follows c ts L → Texts F ts) where
   texts_to : (ts : List Spot) → Texts F ts → Behind c ts
   texts_to ts (o, d) = behind_of c ts (option_map make o) (to ts o d)
 
@@ -126,15 +126,15 @@ term_from : (c : Asked) (ts : List Spot) (L : Line) → Follows (OfTerm c) ts L 
 term_from c ts _ (a_term {T = T} d) = (within T, (T, d, refl))
 
 -- A plain name with its type.
-typed_to_at : (c : Typed) (s t : Spot) (us : List Spot) (o : Option (Name × Syntax)) (v : Name) (T : Syntax) → PlainAt s v → ColonAt t → Reads us T [] → o ≡ option_map (λ A. (v, A)) (within T) → Gives (OfType c) (s ∷ t ∷ us) (option_map (λ r. of_type c r.0 r.1) o)
+typed_to_at : (c : WithType) (s t : Spot) (us : List Spot) (o : Option (Name × Syntax)) (v : Name) (T : Syntax) → PlainAt s v → ColonAt t → Reads us T [] → o ≡ option_map (λ A. (v, A)) (within T) → Gives (OfType c) (s ∷ t ∷ us) (option_map (λ r. of_type c r.0 r.1) o)
 typed_to_at c _ _ us o _ T (plain_at {p} {x} e) (colon_at {p = q}) d h = comes (OfType c) (of_type c x T) ((p, Word x) ∷ (q, Colon) ∷ us) ((p, Word x) ∷ (q, Colon) ∷ us) (option_map (λ r. of_type c r.0 r.1) o) refl (ap (option_map (λ r. of_type c r.0 r.1)) h ∙ (mapped (λ A. (x, A)) (λ r. of_type c r.0 r.1) (within T) ∙ one_kept (of_type c x) T refl)) (a_type e d)
 
-typed_to : (c : Typed) (ts : List Spot) (o : Option (Name × Syntax)) → Fits typed_form ts o → Gives (OfType c) ts (option_map (λ r. of_type c r.0 r.1) o)
+typed_to : (c : WithType) (ts : List Spot) (o : Option (Name × Syntax)) → Fits typed_form ts o → Gives (OfType c) ts (option_map (λ r. of_type c r.0 r.1) o)
 typed_to c [] o d = absurd d
 typed_to c (s ∷ []) o (v, e, d) = absurd d
 typed_to c (s ∷ t ∷ us) o (v, e, (u, f, (T, d, h))) = typed_to_at c s t us o v T (is_plain_at s v e) (is_colon_at t u f) d h
 
-typed_from : (c : Typed) (ts : List Spot) (L : Line) → Follows (OfType c) ts L → Texts typed_form ts
+typed_from : (c : WithType) (ts : List Spot) (L : Line) → Follows (OfType c) ts L → Texts typed_form ts
 typed_from c _ _ (a_type {p = p} {x = x} {T = T} e d) = (option_map (λ A. (x, A)) (within T), (x, plain_said p x e, (tt, refl, (T, d, refl))))
 
 -- Two terms.

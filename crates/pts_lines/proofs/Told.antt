@@ -8,8 +8,8 @@ use Rattle.pts_grammar.specs.declared.kind.Kind.{Kind}
 use Rattle.pts_grammar.specs.declared.kind.Kind.TheVariants as kind
 use Rattle.pts_grammar.specs.Syntax.{Syntax}
 use Rattle.pts_grammar.specs.Grammar.{Reads}
-use Rattle.pts_grammar.specs.Machine.{syntax, State, begin, go, stay, fail, Outcome, read, expected, too_deep, step, run}
-use Rattle.pts_grammar.specs.Seen.{Part, within}
+use Rattle.pts_grammar.specs.Machine.{syntax, State, begin, go, stay, fail, ParseOutcome, read, expected, too_deep, step, run}
+use Rattle.pts_grammar.specs.Seen.{Subtree, within}
 use Rattle.pts_grammar.specs.Open.{more}
 use Rattle.pts_grammar.specs.Refusals.{open_behind}
 use Rattle.pts_grammar.specs.Refusals as grammar
@@ -23,7 +23,7 @@ use Rattle.pts_parser.specs.Resolution.{and_then}
 use Rattle.pts_lines.specs.Items.{Item, plain, label, placed, number, colon, assign, semicolon, sign, Value, wanted, said, first_item, or_expected}
 use Rattle.pts_lines.specs.Lines.{Terms, last_term, more_terms}
 use Rattle.pts_lines.specs.Refusals.{CanGoOn, CanFollow, Wants, the_end, an_assign, a_semicolon, Refused, at_token, at_end, too_many, NoneTooMany, FirstTooMany, first_too_many}
-use Rattle.pts_lines.specs.Forms.{Sign, by_assign, by_semicolon, item_of, Form, ends, item, term, term_then, terms, is_semicolon, begins_term, of_outcome, first_term, behind_term, with_others, some_of, ended, shallow, run_form}
+use Rattle.pts_lines.specs.Forms.{Sign, by_assign, by_semicolon, item_of, LineForm, ends, item, term, term_then, terms, is_semicolon, begins_term, of_outcome, first_term, behind_term, with_others, some_of, ended, shallow, run_form}
 use Rattle.pts_lines.proofs.Frames.{reads_framed, reads_shorter, opened_through}
 use Rattle.pts_lines.proofs.Machine.{read_freely, machine_refuses}
 use Rattle.pts_lines.proofs.Rests.{rest_ends}
@@ -128,7 +128,7 @@ semicolon_is Semicolon e = refl
 semicolon_is t e = absurd (cc e)
 
 -- What several terms give: never `None`.
-abbrev pub Parts : List Spot → Option (List Part) → Type 0
+abbrev pub Parts : List Spot → Option (List Subtree) → Type 0
 Parts ts (Some Ps) = (Ts : List Syntax) × Terms ts Ts × (Ps ≡ map within Ts)
 Parts ts None = ⊥
 
@@ -181,14 +181,14 @@ module _ (size : ℕ) (ts : List Spot) (T : Syntax) (s : Spot) (us : List Spot) 
   stray : is_semicolon s.1 ≡ false → Refused Several size ts kind.End s.0
   stray e = at_token f.before us s.0 s.1 f.whole ([], (T ∷ [], last_term (f.again []))) (not_several e) (the_end (T ∷ [], last_term f.alone))
 
-several_sign : (size n : ℕ) (ts : List Spot) (T : Syntax) (s : Spot) (us : List Spot) → First ts T (s ∷ us) → grammar.NoneTooMany 2000 ts → Told Several size Parts us (some_of within more size n us) → (b : Bool) → is_semicolon s.1 ≡ b → Told Several size Parts ts (and_then {A = Part × Option (List Spot)} (elim b [ true ↦ Ok (within T, Some us) | false ↦ Err (Expected s.0 kind.End) ]) (λ r. with_others within more size r.0 r.1 (some_of within more size n)))
+several_sign : (size n : ℕ) (ts : List Spot) (T : Syntax) (s : Spot) (us : List Spot) → First ts T (s ∷ us) → grammar.NoneTooMany 2000 ts → Told Several size Parts us (some_of within more size n us) → (b : Bool) → is_semicolon s.1 ≡ b → Told Several size Parts ts (and_then {A = Subtree × Option (List Spot)} (elim b [ true ↦ Ok (within T, Some us) | false ↦ Err (Expected s.0 kind.End) ]) (λ r. with_others within more size r.0 r.1 (some_of within more size n)))
 several_sign size n ts T s us f few ih false e = (stray size ts T s us f e, none_stray size ts T s us f Several few (not_several size ts T s us f e))
 several_sign size n ts T s us f few ih true e = subst (λ x. Told Several size Parts x (and_then (some_of within more size n us) (λ Ts. Ok (within T ∷ Ts)))) (sym (whole_then size ts T s us f)) (by (some_of within more size n us) ih)
   where
     pre : List Spot
     pre = f.before ++ s ∷ []
 
-    give : (o : Option (List Part)) → Parts us o → Parts (pre ++ us) (elim o [ Some Ps ↦ Some (within T ∷ Ps) | None ↦ None ])
+    give : (o : Option (List Subtree)) → Parts us o → Parts (pre ++ us) (elim o [ Some Ps ↦ Some (within T ∷ Ps) | None ↦ None ])
     give (Some Ps) d = (T ∷ d.0, others_to size ts T s us f e us d.0 d.1, ap (λ x. within T ∷ x) d.2)
     give None d = d
 
@@ -201,7 +201,7 @@ several_sign size n ts T s us f few ih true e = subst (λ x. Told Several size P
     none : NoneTooMany Several 2000 us → NoneTooMany Several 2000 (pre ++ us)
     none = lift_none Several Several pre to (others_from size ts T s us f) 2000 level (none_then size ts T s us f Several few) us
 
-    by : (r : Result (List Part) ReadFault) → Told Several size Parts us r → Told Several size Parts (pre ++ us) (and_then r (λ Ts. Ok (within T ∷ Ts)))
+    by : (r : Result (List Subtree) ReadFault) → Told Several size Parts us r → Told Several size Parts (pre ++ us) (and_then r (λ Ts. Ok (within T ∷ Ts)))
     by (Ok Ps) d = (give (Some Ps) d.0, none d.1)
     by (Err (Expected p k)) d = (lift_refused Several Several pre to (others_from size ts T s us f) size us k p d.0, none d.1)
     by (Err (TooDeep p)) (inl d) = inl (lift_first Several Several pre to (others_from size ts T s us f) 2000 level (none_then size ts T s us f Several few) us p d)
@@ -215,7 +215,7 @@ several_sign size n ts T s us f few ih true e = subst (λ x. Told Several size P
 whole_ends : (T U : Syntax) (x : Spot) (ws : List Spot) → ¬ (read T [] ≡ read U (x ∷ ws))
 whole_ends T U x ws e = let m : [] ≡ x ∷ ws = cc e in cc m
 
-several_step : (size n : ℕ) (ts : List Spot) → length ts ≤ suc n → ((us : List Spot) → length us ≤ n → Told Several size Parts us (some_of within more size n us)) → (o : Outcome Syntax) → run syntax more size (begin []) ts ≡ o → Told Several size Parts ts (and_then (and_then (of_outcome within more size o) (λ r. behind_term within more size r.0 r.1)) (λ r. with_others within more size r.0 r.1 (some_of within more size n)))
+several_step : (size n : ℕ) (ts : List Spot) → length ts ≤ suc n → ((us : List Spot) → length us ≤ n → Told Several size Parts us (some_of within more size n us)) → (o : ParseOutcome Syntax) → run syntax more size (begin []) ts ≡ o → Told Several size Parts ts (and_then (and_then (of_outcome within more size o) (λ r. behind_term within more size r.0 r.1)) (λ r. with_others within more size r.0 r.1 (some_of within more size n)))
 several_step size n ts h ih (expected p k) e = (machine_refuses Several several_inside several_begins size ts k more p e, none_inside Several several_begins size ts (expected p k) e (λ q g. cc g) (λ T x ws g. cc g))
 several_step size n ts h ih (too_deep p) e = inl (first_inside Several several_inside size ts p e)
 several_step size n ts h ih (read T []) e = ((T ∷ [], last_term (machine_sound more size ts T [] e), refl), none_inside Several several_begins size ts (read T []) e (λ q g. cc g) (whole_ends T))
@@ -263,7 +263,7 @@ not_begun p t e (us, d) =
     absurd (cc m)
 
 -- Any number of terms: no tokens, or those of several.
-module _ {R : Type 0} (size : ℕ) (F : List Part → Option R) where
+module _ {R : Type 0} (size : ℕ) (F : List Subtree → Option R) where
   pub any_to : (us : List Spot) → Several us → Texts (terms F) us
   any_to us (Ts, d) = (F (map within Ts), inr (Ts, d, refl))
 
@@ -284,11 +284,11 @@ module _ {R : Type 0} (size : ℕ) (F : List Part → Option R) where
   any_few ts few p (too_many [] xs e v n) = omega (arith, n)
   any_few ts few p (too_many (x ∷ vs) xs e v n) = few p (too_many (x ∷ vs) xs e (v.0, any_from x _ v.1) n)
 
-  gives_any : (ts : List Spot) (Us : List Syntax) → Terms ts Us → (Ps : List Part) → Ps ≡ map within Us → NoneTooMany (Texts (terms F)) 2000 ts → (o : Option R) → F Ps ≡ o → Told (Texts (terms F)) size (Fits (terms F)) ts (shallow size o)
+  gives_any : (ts : List Spot) (Us : List Syntax) → Terms ts Us → (Ps : List Subtree) → Ps ≡ map within Us → NoneTooMany (Texts (terms F)) 2000 ts → (o : Option R) → F Ps ≡ o → Told (Texts (terms F)) size (Fits (terms F)) ts (shallow size o)
   gives_any ts Us d Ps e few (Some r) h = (inr (Us, d, sym h ∙ ap F e), few)
   gives_any ts Us d Ps e few None h = inr (refl, inr (Us, d, sym h ∙ ap F e), few)
 
-  any_some : (s : Spot) (us : List Spot) → begins_term s.1 ≡ true → (r : Result (List Part) ReadFault) → Told Several size Parts (s ∷ us) r → Told (Texts (terms F)) size (Fits (terms F)) (s ∷ us) (and_then r (λ Ts. shallow size (F Ts)))
+  any_some : (s : Spot) (us : List Spot) → begins_term s.1 ≡ true → (r : Result (List Subtree) ReadFault) → Told Several size Parts (s ∷ us) r → Told (Texts (terms F)) size (Fits (terms F)) (s ∷ us) (and_then r (λ Ts. shallow size (F Ts)))
   any_some s us b (Ok Ps) ((Us, d, e), few) = gives_any (s ∷ us) Us d Ps e (any_few (s ∷ us) few) (F Ps) refl
   any_some s us b (Err (Expected p k)) d = (any_refused s us k p b d.0, any_few (s ∷ us) d.1)
   any_some s us b (Err (TooDeep p)) (inl (first_too_many vs xs e v n few)) = inl (first_too_many vs xs e (v.0, any_to _ v.1) n (any_few vs few))
@@ -348,7 +348,7 @@ module _ {R : Type 0} (size : ℕ) where
   ended_told : (o : Option R) (s : Spot) (us : List Spot) → Refused (Texts (ends o)) size (s ∷ us) kind.End s.0 × NoneTooMany (Texts (ends o)) 2000 (s ∷ us)
   ended_told o s us = (at_token [] us s.0 s.1 refl ([], (o, (refl, refl))) (no_more o s) (the_end (o, (refl, refl))), none_behind (Texts (ends o)) 2000 (s ∷ []) us (none_of_one (Texts (ends o)) 2000 s (omega arith)) (no_more o s))
 
-  module _ (i : Item) (F : Value i → Form R) where
+  module _ (i : Item) (F : Value i → LineForm R) where
     goes : CanGoOn (Texts (item i F)) []
     goes = finish (item i F)
 
@@ -366,7 +366,7 @@ module _ {R : Type 0} (size : ℕ) where
     item_step s us ih None e = (at_token [] us s.0 s.1 refl goes (cannot i F s e) (item_wants i F), none_behind (Texts (item i F)) 2000 (s ∷ []) us (none_of_one (Texts (item i F)) 2000 s (omega arith)) (cannot i F s e))
     item_step s us ih (Some v) e = lift (Texts (item i F)) (Texts (F v)) size (Fits (item i F)) (Fits (F v)) (s ∷ []) us (item_to s v e) (item_from s v e) (λ o d. (v, e, d)) (item_level i s v e 0) (none_of_one (Texts (item i F)) 2000 s (omega arith)) (run_form within more size (F v) us) (ih v)
 
-  module _ (F : Part → Option R) where
+  module _ (F : Subtree → Option R) where
     pub term_inside : (vs us : List Spot) (T : Syntax) → Reads (vs ++ us) T [] → CanGoOn (Texts (term F)) vs
     term_inside vs us T d = (us, (F (within T), (T, d, refl)))
 
@@ -385,13 +385,13 @@ module _ {R : Type 0} (size : ℕ) where
     term_stray : (ts : List Spot) (T : Syntax) (s : Spot) (us : List Spot) → First ts T (s ∷ us) → grammar.NoneTooMany 2000 ts → Refused (Texts (term F)) size ts kind.End s.0 × NoneTooMany (Texts (term F)) 2000 ts
     term_stray ts T s us f few = (at_token f.before us s.0 s.1 f.whole (term_inside f.before [] T (f.again [])) (stray_not ts T s us f) (the_end (F (within T), (T, f.alone, refl))), none_stray size ts T s us f (Texts (term F)) few (stray_not ts T s us f))
 
-    term_step : (ts : List Spot) (o : Outcome Syntax) → run syntax more size (begin []) ts ≡ o → Told (Texts (term F)) size (Fits (term F)) ts (and_then (of_outcome within more size o) (λ r. and_then (ended size r.1) (λ u. shallow size (F r.0))))
+    term_step : (ts : List Spot) (o : ParseOutcome Syntax) → run syntax more size (begin []) ts ≡ o → Told (Texts (term F)) size (Fits (term F)) ts (and_then (of_outcome within more size o) (λ r. and_then (ended size r.1) (λ u. shallow size (F r.0))))
     term_step ts (expected p k) e = (machine_refuses (Texts (term F)) term_inside term_begins size ts k more p e, none_inside (Texts (term F)) term_begins size ts (expected p k) e (λ q g. cc g) (λ T x ws g. cc g))
     term_step ts (too_deep p) e = inl (first_inside (Texts (term F)) term_inside size ts p e)
     term_step ts (read T []) e = term_gives ts T (machine_sound more size ts T [] e) (none_inside (Texts (term F)) term_begins size ts (read T []) e (λ q g. cc g) (whole_ends T)) (F (within T)) refl
     term_step ts (read T (s ∷ us)) e = term_stray ts T s us (first_of more size ts (s ∷ us) T e) (few_in size ts T (s ∷ us) e)
 
-  module _ (a : Sign) (F : Part → Form R) where
+  module _ (a : Sign) (F : Subtree → LineForm R) where
     pub closed : (vs : List Spot) (T : Syntax) → Reads vs T [] → CanFollow (Texts (term_then a F)) vs (sign_of a)
     closed vs T d =
         let f = finish (F (within T)) in
@@ -415,11 +415,11 @@ module _ {R : Type 0} (size : ℕ) where
     unfolding Ends
     not_ended vs T d (o, (U, s, us, h, e, g)) = let m = one_term vs [] (s ∷ us) T U d tt h (stops_at a s us e) in let n : [] ≡ s ∷ us = m.rests in absurd (cc n)
 
-  then_wants : (a : Sign) (F : Part → Form R) (vs : List Spot) (T : Syntax) → Reads vs T [] → Wants (Texts (term_then a F)) vs (wanted (item_of a))
+  then_wants : (a : Sign) (F : Subtree → LineForm R) (vs : List Spot) (T : Syntax) → Reads vs T [] → Wants (Texts (term_then a F)) vs (wanted (item_of a))
   then_wants by_assign F vs T d = an_assign (not_ended by_assign F vs T d) (closed by_assign F vs T d)
   then_wants by_semicolon F vs T d = a_semicolon (not_ended by_semicolon F vs T d) (closed by_semicolon F vs T d)
 
-  module _ (a : Sign) (F : Part → Form R) (ts : List Spot) (T : Syntax) (s : Spot) (us : List Spot) (f : First ts T (s ∷ us)) where
+  module _ (a : Sign) (F : Subtree → LineForm R) (ts : List Spot) (T : Syntax) (s : Spot) (us : List Spot) (f : First ts T (s ∷ us)) where
     -- Behind the sign.
     pub then_to : s.1 ≡ sign_of a → (xs : List Spot) → Texts (F (within T)) xs → Texts (term_then a F) ((f.before ++ s ∷ []) ++ xs)
     then_to e xs (o, d) = (o, (T, s, xs, reads_then size ts T s us f xs, e, d))
@@ -438,14 +438,14 @@ module _ {R : Type 0} (size : ℕ) where
         let q : ◌≡◌ {A = Spot} s x = cc n in
         absurd (not_said a s e (ap (λ y. y.1) q ∙ h))
 
-    then_sign : grammar.NoneTooMany 2000 ts → ((P : Part) (us : List Spot) → Told (Texts (F P)) size (Fits (F P)) us (run_form within more size (F P) us)) → (o : Option (Value (item_of a))) → said (item_of a) s ≡ o → Told (Texts (term_then a F)) size (Fits (term_then a F)) ts (and_then (or_expected s.0 (wanted (item_of a)) us o) (λ q. run_form within more size (F (within T)) q.1))
+    then_sign : grammar.NoneTooMany 2000 ts → ((P : Subtree) (us : List Spot) → Told (Texts (F P)) size (Fits (F P)) us (run_form within more size (F P) us)) → (o : Option (Value (item_of a))) → said (item_of a) s ≡ o → Told (Texts (term_then a F)) size (Fits (term_then a F)) ts (and_then (or_expected s.0 (wanted (item_of a)) us o) (λ q. run_form within more size (F (within T)) q.1))
     then_sign few ih None e = (at_token f.before us s.0 s.1 f.whole (then_inside a F f.before [] T (f.again [])) (then_not e) (then_wants a F f.before T f.alone), none_stray size ts T s us f (Texts (term_then a F)) few (then_not e))
     then_sign few ih (Some v) e =
         let sign = said_is a s v e in
         subst (λ x. Told (Texts (term_then a F)) size (Fits (term_then a F)) x (run_form within more size (F (within T)) us)) (sym (whole_then size ts T s us f)) (lift (Texts (term_then a F)) (Texts (F (within T))) size (Fits (term_then a F)) (Fits (F (within T))) (f.before ++ s ∷ []) us (then_to sign) then_from (λ o d. (T, s, us, reads_then size ts T s us f us, sign, d)) (level_then size ts T s us f (item_level (item_of a) s v e)) (none_then size ts T s us f (Texts (term_then a F)) few) (run_form within more size (F (within T)) us) (ih (within T) us))
 
-  module _ (a : Sign) (F : Part → Form R) where
-    then_step : (ts : List Spot) → ((P : Part) (us : List Spot) → Told (Texts (F P)) size (Fits (F P)) us (run_form within more size (F P) us)) → (o : Outcome Syntax) → run syntax more size (begin []) ts ≡ o → Told (Texts (term_then a F)) size (Fits (term_then a F)) ts (and_then (of_outcome within more size o) (λ r. and_then (first_item (item_of a) size r.1) (λ q. run_form within more size (F r.0) q.1)))
+  module _ (a : Sign) (F : Subtree → LineForm R) where
+    then_step : (ts : List Spot) → ((P : Subtree) (us : List Spot) → Told (Texts (F P)) size (Fits (F P)) us (run_form within more size (F P) us)) → (o : ParseOutcome Syntax) → run syntax more size (begin []) ts ≡ o → Told (Texts (term_then a F)) size (Fits (term_then a F)) ts (and_then (of_outcome within more size o) (λ r. and_then (first_item (item_of a) size r.1) (λ q. run_form within more size (F r.0) q.1)))
     then_step ts ih (expected p k) e = (machine_refuses (Texts (term_then a F)) (then_inside a F) (then_begins a F) size ts k more p e, none_inside (Texts (term_then a F)) (then_begins a F) size ts (expected p k) e (λ q g. cc g) (λ T x ws g. cc g))
     then_step ts ih (too_deep p) e = inl (first_inside (Texts (term_then a F)) (then_inside a F) size ts p e)
     then_step ts ih (read T []) e =
@@ -454,7 +454,7 @@ module _ {R : Type 0} (size : ℕ) where
     then_step ts ih (read T (s ∷ us)) e = then_sign a F ts T s us (first_of more size ts (s ∷ us) T e) (few_in size ts T (s ∷ us) e) ih (said (item_of a) s) refl
 
 -- The reader's answers are those of the texts.
-pub told : {R : Type 0} (size : ℕ) (F : Form R) (ts : List Spot) → Told (Texts F) size (Fits F) ts (run_form within more size F ts)
+pub told : {R : Type 0} (size : ℕ) (F : LineForm R) (ts : List Spot) → Told (Texts F) size (Fits F) ts (run_form within more size F ts)
 unfolding first_term
 told size (ends o) [] = end_told size o o refl
 told size (ends o) (s ∷ us) = ended_told size o s us

@@ -6,8 +6,8 @@ use Rattle.pts_tokens.specs.declared.token.Token.TheVariants.{Lambda, At, Let, O
 use Rattle.pts_tokens.specs.Tokens.{Spot}
 use Rattle.pts_grammar.specs.declared.kind.Kind.TheVariants.{Command as command_wanted, Term as term_wanted, End as end_wanted}
 use Rattle.pts_grammar.specs.Syntax.{Syntax}
-use Rattle.pts_grammar.specs.Seen.{Part}
-use Rattle.pts_grammar.specs.Machine.{syntax, Outcome, read, expected, too_deep, begin, run}
+use Rattle.pts_grammar.specs.Seen.{Subtree}
+use Rattle.pts_grammar.specs.Machine.{syntax, ParseOutcome, read, expected, too_deep, begin, run}
 use Rattle.pts_parser.specs.declared.fault.ReadFault.{ReadFault}
 use Rattle.pts_parser.specs.declared.fault.ReadFault.TheVariants.{Expected, TooDeep}
 use Rattle.pts_parser.specs.Resolution.{UnlessMemory, and_then}
@@ -34,12 +34,12 @@ item_of by_semicolon = semicolon
 
 -- The form of what stands behind a word: nothing, with this to be answered, or `None` where a term was too deep; a
 -- token and the rest; a term behind which nothing stands; a term, a sign and the rest; any number of terms.
-pub data Form (R : Type 0) : Type 0 where
-  ends : Option R → Form R
-  item : (i : Item) → (Value i → Form R) → Form R
-  term : (Part → Option R) → Form R
-  term_then : Sign → (Part → Form R) → Form R
-  terms : (List Part → Option R) → Form R
+pub data LineForm (R : Type 0) : Type 0 where
+  ends : Option R → LineForm R
+  item : (i : Item) → (Value i → LineForm R) → LineForm R
+  term : (Subtree → Option R) → LineForm R
+  term_then : Sign → (Subtree → LineForm R) → LineForm R
+  terms : (List Subtree → Option R) → LineForm R
 
 -- Nothing is left.
 abbrev pub ended : ℕ → List Spot → Result (Unit {0}) ReadFault
@@ -66,38 +66,38 @@ is_semicolon Semicolon = true
 is_semicolon _ = false
 
 -- What a term of a line is kept as, and whether another parenthesis may be opened where so many are open.
-module _ (kept : Syntax → Part) (more : ℕ → Bool) (length : ℕ) where
-  abbrev pub of_outcome : Outcome Syntax → Result (Part × List Spot) ReadFault
+module _ (kept : Syntax → Subtree) (more : ℕ → Bool) (length : ℕ) where
+  abbrev pub of_outcome : ParseOutcome Syntax → Result (Subtree × List Spot) ReadFault
   of_outcome (read T us) = Ok (kept T, us)
   of_outcome (expected p k) = Err (Expected p k)
   of_outcome (too_deep p) = Err (TooDeep p)
 
   -- The term with which the tokens begin, and the tokens behind it.
-  unfoldable pub first_term : List Spot → Result (Part × List Spot) ReadFault
+  unfoldable pub first_term : List Spot → Result (Subtree × List Spot) ReadFault
   first_term ts = of_outcome (run syntax more length (begin []) ts)
 
   -- A term of several, and the tokens behind its semicolon; or none at the end.
-  abbrev pub behind_term : Part → List Spot → Result (Part × Option (List Spot)) ReadFault
+  abbrev pub behind_term : Subtree → List Spot → Result (Subtree × Option (List Spot)) ReadFault
   behind_term T [] = Ok (T, None)
   behind_term T (s ∷ us) = elim (is_semicolon s.1) [ true ↦ Ok (T, Some us) | false ↦ Err (Expected s.0 end_wanted) ]
 
-  abbrev pub next_term : List Spot → Result (Part × Option (List Spot)) ReadFault
+  abbrev pub next_term : List Spot → Result (Subtree × Option (List Spot)) ReadFault
   next_term ts = and_then (first_term ts) (λ r. behind_term r.0 r.1)
 
-  abbrev pub with_others : Part → Option (List Spot) → (List Spot → Result (List Part) ReadFault) → Result (List Part) ReadFault
+  abbrev pub with_others : Subtree → Option (List Spot) → (List Spot → Result (List Subtree) ReadFault) → Result (List Subtree) ReadFault
   with_others T None others = Ok (T ∷ [])
   with_others T (Some us) others = and_then (others us) (λ Ts. Ok (T ∷ Ts))
 
   -- At most n terms, and at least one.
-  abbrev pub some_of : ℕ → List Spot → Result (List Part) ReadFault
+  abbrev pub some_of : ℕ → List Spot → Result (List Subtree) ReadFault
   some_of zero ts = Err (Expected length term_wanted)
   some_of (suc n) ts = and_then (next_term ts) (λ r. with_others r.0 r.1 (some_of n))
 
-  abbrev pub any_of : List Spot → Result (List Part) ReadFault
+  abbrev pub any_of : List Spot → Result (List Subtree) ReadFault
   any_of [] = Ok []
   any_of (s ∷ us) = elim (begins_term s.1) [ true ↦ some_of (suc (Rattle.std.specs.Prelude.length us)) (s ∷ us) | false ↦ Err (Expected s.0 end_wanted) ]
 
-  abbrev pub run_form : {R : Type 0} → Form R → List Spot → Result R ReadFault
+  abbrev pub run_form : {R : Type 0} → LineForm R → List Spot → Result R ReadFault
   run_form (ends o) ts = and_then (ended length ts) (λ u. shallow length o)
   run_form (item i F) ts = and_then (first_item i length ts) (λ r. run_form (F r.0) r.1)
   run_form (term F) ts = and_then (first_term ts) (λ r. and_then (ended length r.1) (λ u. shallow length (F r.0)))
@@ -105,25 +105,25 @@ module _ (kept : Syntax → Part) (more : ℕ → Bool) (length : ℕ) where
   run_form (terms F) ts = and_then (any_of ts) (λ Ts. shallow length (F Ts))
 
 -- The forms.
-abbrev pub alone_form : Form (Unit {0})
+abbrev pub alone_form : LineForm (Unit {0})
 alone_form = ends (Some tt)
 
-abbrev pub plain_form : Form Name
+abbrev pub plain_form : LineForm Name
 plain_form = item plain (λ x. ends (Some x))
 
-abbrev pub placed_form : Form (ℕ × Name)
+abbrev pub placed_form : LineForm (ℕ × Name)
 placed_form = item placed (λ x. ends (Some x))
 
-abbrev pub number_form : Form ℕ
+abbrev pub number_form : LineForm ℕ
 number_form = item number (λ n. ends (Some n))
 
-abbrev pub names_form : Form (Name × Name)
+abbrev pub names_form : LineForm (Name × Name)
 names_form = item plain (λ x. item plain (λ y. ends (Some (x, y))))
 
-abbrev pub term_form : Form Syntax
+abbrev pub term_form : LineForm Syntax
 term_form = term (λ T. T)
 
-abbrev pub typed_form : Form (Name × Syntax)
+abbrev pub typed_form : LineForm (Name × Syntax)
 typed_form = item plain (λ x. item colon (λ u. term (option_map (λ T. (x, T)))))
 
 abbrev pub pair : {A B : Type 0} → Option A → Option B → Option (A × B)
@@ -131,24 +131,24 @@ pair (Some a) (Some b) = Some (a, b)
 pair (Some a) None = None
 pair None b = None
 
-abbrev pub terms_form : Form (Syntax × Syntax)
+abbrev pub terms_form : LineForm (Syntax × Syntax)
 terms_form = term_then by_semicolon (λ T. term (pair T))
 
-abbrev pub body_form : Name → Bool → Form (Name × Option Syntax × Syntax)
+abbrev pub body_form : Name → Bool → LineForm (Name × Option Syntax × Syntax)
 body_form x true = term_then by_assign (λ A. term (λ T. option_map (λ r. (x, Some r.0, r.1)) (pair A T)))
 body_form x false = term (option_map (λ T. (x, None, T)))
 
-abbrev pub definition_form : Form (Name × Option Syntax × Syntax)
+abbrev pub definition_form : LineForm (Name × Option Syntax × Syntax)
 definition_form = item plain (λ x. item sign (body_form x))
 
 abbrev pub all_of : {A : Type 0} → List (Option A) → Option (List A)
 all_of [] = Some []
 all_of (o ∷ os) = option_map (λ r. r.0 ∷ r.1) (pair o (all_of os))
 
-abbrev pub instance_form : Form (Name × Name × List Syntax)
+abbrev pub instance_form : LineForm (Name × Name × List Syntax)
 instance_form = item plain (λ m. item label (λ l. terms (λ Ts. option_map (λ Us. (m, l, Us)) (all_of Ts))))
 
-module _ (kept : Syntax → Part) (more : ℕ → Bool) (length : ℕ) where
+module _ (kept : Syntax → Subtree) (more : ℕ → Bool) (length : ℕ) where
   -- What stands behind the word of a command.
   abbrev pub run_command : Command → List Spot → Result Line ReadFault
   run_command (OfNothing c) ts = and_then (run_form kept more length alone_form ts) (λ u. Ok (alone c))

@@ -9,7 +9,7 @@ use Rattle.pts_lines.specs.declared.command.Alone.{Alone}
 use Rattle.pts_lines.specs.declared.command.Named.{Named}
 use Rattle.pts_lines.specs.declared.command.Placed.{Placed}
 use Rattle.pts_lines.specs.declared.command.Asked.{Asked}
-use Rattle.pts_lines.specs.declared.command.Typed.{Typed}
+use Rattle.pts_lines.specs.declared.command.WithType.{WithType}
 use Rattle.pts_lines.specs.declared.command.Command.{Command}
 use Rattle.pts_lines.specs.declared.command.Command.TheVariants.{OfNothing, OfPlain, OfName, OfTerm, OfType, Rename, Budget, Equal, Define, Instance}
 use Rattle.pts_lines.specs.declared.command.Declaring.{Declaring}
@@ -22,7 +22,7 @@ pub data Line : Type 0 where
   of_plain : Named → Name → Line
   of_name : Placed → ℕ → Name → Line
   of_term : Asked → Syntax → Line
-  of_type : Typed → Name → Syntax → Line
+  of_type : WithType → Name → Syntax → Line
   renaming : Name → Name → Line
   budget : ℕ → Line
   equality : Syntax → Syntax → Line
@@ -40,7 +40,7 @@ pub data Follows : Command → List Spot → Line → Type 0 where
   a_plain : {c : Named} {p : ℕ} {x : Name} → is_plain x ≡ true → Follows (OfPlain c) ((p, Word x) ∷ []) (of_plain c x)
   a_name : {c : Placed} {p : ℕ} {x : Name} → Follows (OfName c) ((p, Word x) ∷ []) (of_name c p x)
   a_term : {c : Asked} {ts : List Spot} {T : Syntax} → Reads ts T [] → Follows (OfTerm c) ts (of_term c T)
-  a_type : {c : Typed} {p q : ℕ} {x : Name} {ts : List Spot} {T : Syntax} → is_plain x ≡ true → Reads ts T [] → Follows (OfType c) ((p, Word x) ∷ (q, Colon) ∷ ts) (of_type c x T)
+  a_type : {c : WithType} {p q : ℕ} {x : Name} {ts : List Spot} {T : Syntax} → is_plain x ≡ true → Reads ts T [] → Follows (OfType c) ((p, Word x) ∷ (q, Colon) ∷ ts) (of_type c x T)
   two_names : {p q : ℕ} {x y : Name} → is_plain x ≡ true → is_plain y ≡ true → Follows Rename ((p, Word x) ∷ (q, Word y) ∷ []) (renaming x y)
   a_number : {p n : ℕ} {ds : List ℕ} → units ds ≡ Some n → Follows Budget ((p, Number ds) ∷ []) (budget n)
   two_terms : {p : ℕ} {ts us : List Spot} {T U : Syntax} → Reads ts T ((p, Semicolon) ∷ us) → Reads us U [] → Follows Equal ts (equality T U)

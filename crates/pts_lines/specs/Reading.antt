@@ -41,23 +41,23 @@ pub data RefusesLine (words : Name → Option Command) (length : ℕ) : List Spo
   deep_term : {ts : List Spot} {L : Line} → LineReads words ts L → 2000 < deepest (terms_of L) → NoneTooMany (IsLine words) 2000 ts → RefusesLine words length ts (TooDeep length)
 
 -- The text says this line: its tokens are that line.
-abbrev pub Says : List ℕ → Line → Type 0
-Says text L = (ts : List Spot) × (tokens_from text 0 ≡ Ok ts) × LineReads command ts L
+abbrev pub SaysLine : List ℕ → Line → Type 0
+SaysLine text L = (ts : List Spot) × (tokens_from text 0 ≡ Ok ts) × LineReads command ts L
 
 -- The text says this declaration of a module file.
-abbrev pub Declares : List ℕ → Declaring × Line → Type 0
-Declares text d = (ts : List Spot) × (tokens_from text 0 ≡ Ok ts) × DeclarationReads ts d.0 d.1
+abbrev pub SaysDeclaration : List ℕ → Declaring × Line → Type 0
+SaysDeclaration text d = (ts : List Spot) × (tokens_from text 0 ≡ Ok ts) × DeclarationReads ts d.0 d.1
 
 -- The text has tokens, and the grammar refuses them so.
-abbrev pub IsRefused : (Name → Option Command) → List ℕ → ReadFault → Type 0
-IsRefused words text e = (ts : List Spot) × (tokens_from text 0 ≡ Ok ts) × RefusesLine words (length text) ts e
+abbrev pub IsRefusedLine : (Name → Option Command) → List ℕ → ReadFault → Type 0
+IsRefusedLine words text e = (ts : List Spot) × (tokens_from text 0 ≡ Ok ts) × RefusesLine words (length text) ts e
 
 -- The text says no line with these words for this reason.
 abbrev pub RefusesText : (Name → Option Command) → List ℕ → ReadFault → Type 0
 RefusesText words text (BadChar p) = tokens_from text 0 ≡ Err (token.BadChar p)
 RefusesText words text (LongName p) = tokens_from text 0 ≡ Err (token.LongName p)
-RefusesText words text (Expected p k) = IsRefused words text (Expected p k)
-RefusesText words text (TooDeep p) = IsRefused words text (TooDeep p)
+RefusesText words text (Expected p k) = IsRefusedLine words text (Expected p k)
+RefusesText words text (TooDeep p) = IsRefusedLine words text (TooDeep p)
 RefusesText words text (UnknownName p x) = ⊥
 RefusesText words text (UnknownSort p w) = ⊥
 RefusesText words text Memory = Unit {0}

@@ -3,14 +3,14 @@ use Rattle.std.specs.Prelude.{ℕ, max, List, [], ◌∷◌, map, Some, None, op
 use Rattle.pts_grammar.specs.Syntax.{Syntax, depth_of}
 use Rattle.pts_grammar.specs.Seen.{syntax_of}
 use Rattle.pts_lines.specs.declared.line.Line.{Line as TheLine}
-use Rattle.pts_lines.specs.declared.declaration.Declaration.{Declaration}
+use Rattle.pts_lines.specs.declared.declaration.DeclaringLine.{DeclaringLine}
 use Rattle.pts_lines.specs.declared.command.Declaring.{Declaring}
 use Rattle.pts_lines.specs.declared.command.Declaring.TheVariants as declaring
 use Rattle.pts_lines.specs.declared.command.Alone.TheVariants.{Look, Commit, Goals, Qed, Abort, Undo, Discard, Draft}
 use Rattle.pts_lines.specs.declared.command.Named.TheVariants.{Load, Accept, Intro}
 use Rattle.pts_lines.specs.declared.command.Placed.TheVariants.{Unfold, Show}
 use Rattle.pts_lines.specs.declared.command.Asked.TheVariants.{Exact, Apply, Convert, Infer, Reduce}
-use Rattle.pts_lines.specs.declared.command.Typed.TheVariants.{Assume, Theorem, Cut}
+use Rattle.pts_lines.specs.declared.command.WithType.TheVariants.{Assume, Theorem, Cut}
 use Rattle.pts_lines.specs.Lines.{Line, alone, of_plain, of_name, of_term, of_type, renaming, budget, equality, definition, instantiation}
 
 abbrev pub line_of : TheLine → Line
@@ -42,10 +42,10 @@ line_of (TheLine.Show p x) = of_name Show p x
 line_of TheLine.Draft = alone Draft
 
 -- A declaration of the program.
-abbrev pub declaration_of : Declaration → Declaring × Line
-declaration_of (Declaration.Parameter x t) = (declaring.Parameter, of_type Assume x (syntax_of t))
-declaration_of (Declaration.Assume x t) = (declaring.Assume, of_type Assume x (syntax_of t))
-declaration_of (Declaration.Define x a t) = (declaring.Define, definition x (option_map syntax_of a) (syntax_of t))
+abbrev pub declaration_of : DeclaringLine → Declaring × Line
+declaration_of (DeclaringLine.Parameter x t) = (declaring.Parameter, of_type Assume x (syntax_of t))
+declaration_of (DeclaringLine.Assume x t) = (declaring.Assume, of_type Assume x (syntax_of t))
+declaration_of (DeclaringLine.Define x a t) = (declaring.Define, definition x (option_map syntax_of a) (syntax_of t))
 
 -- The depth of the deepest term of a line, or 0.
 abbrev pub deepest : List Syntax → ℕ

@@ -10,8 +10,8 @@ use Rattle.pts_lines.specs.declared.command.Placed.{Placed}
 use Rattle.pts_lines.specs.declared.command.Placed.TheVariants.{Unfold, Show}
 use Rattle.pts_lines.specs.declared.command.Asked.{Asked}
 use Rattle.pts_lines.specs.declared.command.Asked.TheVariants.{Exact, Apply, Convert, Infer, Reduce}
-use Rattle.pts_lines.specs.declared.command.Typed.{Typed}
-use Rattle.pts_lines.specs.declared.command.Typed.TheVariants.{Assume, Theorem, Cut}
+use Rattle.pts_lines.specs.declared.command.WithType.{WithType}
+use Rattle.pts_lines.specs.declared.command.WithType.TheVariants.{Assume, Theorem, Cut}
 use Rattle.pts_lines.specs.declared.command.Declaring.{Declaring}
 use Rattle.pts_lines.specs.declared.command.Declaring.TheVariants.{Parameter, Assume as Assumption, Define as Definition}
 use Rattle.pts_lines.specs.declared.command.Command.{Command}
@@ -57,7 +57,7 @@ asked w =
     else (if same_name w (codes "reduce") then Some Reduce
     else None))))
 
-abbrev pub typed : Name → Option Typed
+abbrev pub typed : Name → Option WithType
 typed w =
     if same_name w (codes "assume") then Some Assume
     else (if same_name w (codes "theorem") then Some Theorem

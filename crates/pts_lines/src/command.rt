@@ -38,7 +38,7 @@ pub(crate) enum Asked {
 
 /// A command behind which a plain name stands with its type.
 #[derive(Clone, Copy, Debug, PartialEq, Eq)]
-pub(crate) enum Typed {
+pub(crate) enum WithType {
     Assume,
     Theorem,
     Cut,
@@ -51,7 +51,7 @@ pub(crate) enum Command {
     OfPlain(Named),
     OfName(Placed),
     OfTerm(Asked),
-    OfType(Typed),
+    OfType(WithType),
     /// Two plain names.
     Rename,
     /// A number.

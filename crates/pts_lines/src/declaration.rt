@@ -5,7 +5,7 @@ ghost use Rattle.pts_grammar.specs.Open.{more};
 ghost use Rattle.pts_parser.specs.Reading.{tokens_from};
 ghost use Rattle.pts_lines.specs.Words.{declaring};
 ghost use Rattle.pts_lines.specs.Seen.{declaration_of, deepest, terms_of};
-ghost use Rattle.pts_lines.specs.Reading.{Declares, FewOpen, RefusesText, declaration_said, declared_at, declared_in, declared_front, declared_first};
+ghost use Rattle.pts_lines.specs.Reading.{SaysDeclaration, FewOpen, RefusesText, declaration_said, declared_at, declared_in, declared_front, declared_first};
 ghost use Rattle.pts_lines.specs.Forms.{AnswersAs, run_declaration};
 
 use crate::command::Declaring;
@@ -21,7 +21,7 @@ use std::alloc::{AllocError, Global};
 /// A line of a module file that declares something: a parameter or an assumption with its type, or a definition with its
 /// type, if it is written, and its body.
 #[derive(Debug, Drop)]
-pub enum Declaration {
+pub enum DeclaringLine {
     Parameter(Name, Tree),
     Assume(Name, Tree),
     Define(Name, Option<Tree>, Tree),
@@ -32,8 +32,8 @@ pub enum Declaration {
 /// # Errors
 ///
 /// Those of `read_line`, the only words being `parameter`, `assume` and `define`.
-pub fn read_declaration(alloc: Global, text: &str) -> Result<Declaration, ReadFault>
-    ensures declaration { IfOk result (λ d. Declares text.now (declaration_of d)) }
+pub fn read_declaration(alloc: Global, text: &str) -> Result<DeclaringLine, ReadFault>
+    ensures declaration { IfOk result (λ d. SaysDeclaration text.now (declaration_of d)) }
     ensures depth { IfOk result (λ d. deepest (terms_of (declaration_of d).1) ≤ 2000) }
     ensures exact { AnswersAs declaration_of result (declaration_said text.now) }
     ensures parentheses { OnOk result (FewOpen declaring text.now) }
@@ -49,7 +49,7 @@ fn declaration_at(
     alloc: Global,
     tokens: &[(usize, Token)],
     length: usize,
-) -> Result<Declaration, ReadFault>
+) -> Result<DeclaringLine, ReadFault>
     ensures { AnswersAs declaration_of result (run_declaration within more length tokens.now) }
 {
     let Some((spot, behind)) = tokens.split_first() else {
@@ -61,15 +61,15 @@ fn declaration_at(
     match declared(word.text()) {
         Some(Declaring::Parameter) => {
             let (name, ty) = typed(alloc, behind, length)?;
-            Ok(Declaration::Parameter(name, ty))
+            Ok(DeclaringLine::Parameter(name, ty))
         }
         Some(Declaring::Assume) => {
             let (name, ty) = typed(alloc, behind, length)?;
-            Ok(Declaration::Assume(name, ty))
+            Ok(DeclaringLine::Assume(name, ty))
         }
         Some(Declaring::Define) => {
             let (name, ty, body) = definition(alloc, behind, length)?;
-            Ok(Declaration::Define(name, ty, body))
+            Ok(DeclaringLine::Define(name, ty, body))
         }
         None => Err(ReadFault::Expected(0, Kind::Command)),
     }

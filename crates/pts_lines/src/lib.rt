@@ -16,7 +16,7 @@ mod tests;
 mod word;
 
 pub use command::Declaring;
-pub use declaration::{Declaration, declaring_word, read_declaration};
+pub use declaration::{DeclaringLine, declaring_word, read_declaration};
 pub use laws::{line_refusals_are_determined, lines_are_unambiguous};
 pub use line::Line;
 pub use pts_parser::ReadFault;

@@ -4,10 +4,10 @@ ghost use Rattle.pts_grammar.specs.Open.{more};
 ghost use Rattle.pts_lines.specs.Lines.{alone, of_plain, of_name, of_term, of_type};
 ghost use Rattle.pts_lines.specs.Words as words;
 ghost use Rattle.pts_lines.specs.Seen.{line_of, deepest, terms_of};
-ghost use Rattle.pts_lines.specs.Reading.{Says, FewOpen, RefusesText, line_said};
+ghost use Rattle.pts_lines.specs.Reading.{SaysLine, FewOpen, RefusesText, line_said};
 ghost use Rattle.pts_lines.specs.Forms.{AnswersAs, run_command, run_line};
 
-use crate::command::{Alone, Asked, Command, Named, Placed, Typed};
+use crate::command::{Alone, Asked, Command, Named, Placed, WithType};
 use crate::item::end;
 use crate::line::Line;
 use crate::shape::{definition, instance, only_name, only_number, only_plain, two_plain, typed};
@@ -31,7 +31,7 @@ use std::alloc::Global;
 /// open beside 2,000 others, before whatever does not fit behind it; and at last, at the text's length, where a term is
 /// deeper than 2,000.
 pub fn read_line(alloc: Global, text: &str) -> Result<Line, ReadFault>
-    ensures line { IfOk result (λ l. Says text.now (line_of l)) }
+    ensures line { IfOk result (λ l. SaysLine text.now (line_of l)) }
     ensures depth { IfOk result (λ l. deepest (terms_of (line_of l)) ≤ 2000) }
     ensures exact { AnswersAs line_of result (line_said text.now) }
     ensures parentheses { OnOk result (FewOpen words.command text.now) }
@@ -143,13 +143,13 @@ fn asked_line(command: Asked, term: Tree) -> Line
     }
 }
 
-fn typed_line(command: Typed, typed: (Name, Tree)) -> Line
+fn typed_line(command: WithType, typed: (Name, Tree)) -> Line
     ensures { line_of result ≡ of_type command typed.0 (syntax_of typed.1) }
 {
     let (name, ty) = typed;
     match command {
-        Typed::Assume => Line::Assume(name, ty),
-        Typed::Theorem => Line::Theorem(name, ty),
-        Typed::Cut => Line::Cut(name, ty),
+        WithType::Assume => Line::Assume(name, ty),
+        WithType::Theorem => Line::Theorem(name, ty),
+        WithType::Cut => Line::Cut(name, ty),
     }
 }

@@ -1,7 +1,7 @@
 ghost use Rattle.std.specs.Prelude.{◌≡◌};
 ghost use Rattle.pts_lines.specs.Words as words;
 
-use crate::command::{Alone, Asked, Command, Declaring, Named, Placed, Typed};
+use crate::command::{Alone, Asked, Command, Declaring, Named, Placed, WithType};
 
 /// The command that a word is.
 #[tactic(auto, unfolding(crate::specs::Words::command))]
@@ -96,13 +96,13 @@ fn asked(word: &str) -> Option<Asked>
 
 /// A word before a plain name with its type.
 #[tactic(auto, using(crate::proofs::Differs::differs))]
-fn typed(word: &str) -> Option<Typed>
+fn typed(word: &str) -> Option<WithType>
     ensures { result ≡ words.typed word.now }
 {
     match word {
-        "assume" => Some(Typed::Assume),
-        "theorem" => Some(Typed::Theorem),
-        "cut" => Some(Typed::Cut),
+        "assume" => Some(WithType::Assume),
+        "theorem" => Some(WithType::Theorem),
+        "cut" => Some(WithType::Cut),
         _ => None,
     }
 }

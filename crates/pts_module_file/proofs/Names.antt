@@ -8,15 +8,15 @@ use Rattle.pts_lines.specs.declared.command.Declaring.{Declaring}
 use Rattle.pts_lines.specs.declared.command.Declaring.TheVariants as declaring
 use Rattle.pts_lines.specs.Lines.{Line}
 use Rattle.pts_lines.specs.Reading.{declaration_said, declared_first}
-use Rattle.pts_module_file.specs.declared.fault.Why.{Why}
-use Rattle.pts_module_file.specs.declared.fault.Why.TheVariants.{Form}
+use Rattle.pts_module_file.specs.declared.fault.FileWhy.{FileWhy}
+use Rattle.pts_module_file.specs.declared.fault.FileWhy.TheVariants.{Form}
 use Rattle.pts_module_file.specs.declared.stage.Stage.{Stage}
 use Rattle.pts_module_file.specs.declared.stage.Stage.TheVariants.{Format, Module, Uses, Parameters, Declarations, Ended}
 use Rattle.pts_module_file.specs.Text.{lines_of}
-use Rattle.pts_module_file.specs.Lines.{Entry, passed, fixed, uses, declares, is_short_text, is_passed, may_declare, behind, name_of, has_short_name, with_short_name, declared, ending, declaring_line, later_line, uses_line, format_line, module_line, staged_line, line_at}
+use Rattle.pts_module_file.specs.Lines.{FileLine, passed, fixed, uses, declares, is_short_text, is_passed, may_declare, behind, name_of, has_short_name, with_short_name, declared, ending, declaring_line, later_line, uses_line, format_line, module_line, staged_line, line_at}
 use Rattle.pts_module_file.specs.File.{File, AllShort, with_entry, at_last, behind_line, read_lines, module_of}
 
-abbrev EntryShort : Entry → Type 0
+abbrev EntryShort : FileLine → Type 0
 EntryShort (declares d) = has_short_name (name_of d.1) ≡ true
 EntryShort e = Unit {0}
 
@@ -26,7 +26,7 @@ Named asked Format = Unit {0}
 Named asked Module = Unit {0}
 Named asked s = is_short asked ≡ true
 
-abbrev Fine : Name → Stage → Result (Stage × Entry) Why → Type 0
+abbrev Fine : Name → Stage → Result (Stage × FileLine) FileWhy → Type 0
 Fine asked s (Ok r) = EntryShort r.1 × (Named asked s → Named asked r.0)
 Fine asked s (Err w) = Unit {0}
 
@@ -115,7 +115,7 @@ short_more : (ds : List (ℕ × (Declaring × Line))) (n : ℕ) (d : Declaring �
 short_more [] n d h a = (h, tt)
 short_more (r ∷ rs) n d h a = (a.0, short_more rs n d h a.1)
 
-short_with : (f : File) (n : ℕ) (e : Entry) → EntryShort e → AllShort f.stated → AllShort (with_entry f n e).stated
+short_with : (f : File) (n : ℕ) (e : FileLine) → EntryShort e → AllShort f.stated → AllShort (with_entry f n e).stated
 short_with f n passed h a = a
 short_with f n fixed h a = a
 short_with f n (uses x) h a = a
@@ -134,7 +134,7 @@ ended_short asked Uses n f g h short a = absurd (cc h)
 ended_short asked Parameters n f g h short a = absurd (cc h)
 ended_short asked Declarations n f g h short a = absurd (cc h)
 
-behind_short : (asked : Name) (s : Stage) (n : ℕ) (f g : File) (others : Stage → File → Result File (ℕ × Why)) → ((r : Stage) (e : File) → others r e ≡ Ok g → Named asked r → AllShort e.stated → Both asked g) → (x : Result (Stage × Entry) Why) → Fine asked s x → behind_line n f x others ≡ Ok g → Named asked s → AllShort f.stated → Both asked g
+behind_short : (asked : Name) (s : Stage) (n : ℕ) (f g : File) (others : Stage → File → Result File (ℕ × FileWhy)) → ((r : Stage) (e : File) → others r e ≡ Ok g → Named asked r → AllShort e.stated → Both asked g) → (x : Result (Stage × FileLine) FileWhy) → Fine asked s x → behind_line n f x others ≡ Ok g → Named asked s → AllShort f.stated → Both asked g
 behind_short asked s n f g others later (Ok r) fine h short a = later r.0 (with_entry f n r.1) h (fine.1 short) (short_with f n r.1 fine.0 a)
 behind_short asked s n f g others later (Err w) fine h short a = absurd (cc h)
 

@@ -5,20 +5,20 @@ use Rattle.pts_names.specs.Name.{Name, is_identifier, name_fault, UnlessMemory, 
 use Rattle.pts_names.specs.declared.fault.NameFault.{NameFault}
 use Rattle.pts_names.specs.declared.fault.NameFault.TheVariants.{Empty, BadStart, BadPart, TooLong, Memory as NoMemory}
 use Rattle.pts_names.proofs.OnePart.{identifier_is_name}
-use Rattle.pts_module_file.specs.declared.fault.Why.TheVariants.{Form}
-use Rattle.pts_module_file.specs.declared.fault.Refusal.{Refusal}
-use Rattle.pts_module_file.specs.declared.fault.Refusal.TheVariants.{Because, Memory}
+use Rattle.pts_module_file.specs.declared.fault.FileWhy.TheVariants.{Form}
+use Rattle.pts_module_file.specs.declared.fault.FileLineFault.{FileLineFault}
+use Rattle.pts_module_file.specs.declared.fault.FileLineFault.TheVariants.{Because, Memory}
 use Rattle.pts_module_file.specs.declared.stage.Stage.{Stage}
 use Rattle.pts_module_file.specs.declared.stage.Stage.TheVariants.{Format, Module, Uses, Parameters, Declarations, Ended}
 use Rattle.pts_module_file.specs.declared.stage.Item.{Item}
-use Rattle.pts_module_file.specs.Lines.{Entry, line_at, is_short_text}
-use Rattle.pts_module_file.specs.File.{File, with_entry, at_last, behind_line, read_lines, module_of, entry_of, AnswersAs, fault_at, Refuses}
+use Rattle.pts_module_file.specs.Lines.{FileLine, line_at, is_short_text}
+use Rattle.pts_module_file.specs.File.{File, with_entry, at_last, behind_line, read_lines, module_of, file_line_of, AnswersAs, fault_at, RefusesModule}
 
 module _ (asked : Name) (s : Stage) (n : ℕ) (f : File) (line : List ℕ) (lines : List (List ℕ)) where
-  pub next_is : (r : Stage) (e : Entry) → line_at asked s line ≡ Ok (r, e) → read_lines asked s n f (line ∷ lines) ≡ read_lines asked r (suc n) (with_entry f n e) lines
+  pub next_is : (r : Stage) (e : FileLine) → line_at asked s line ≡ Ok (r, e) → read_lines asked s n f (line ∷ lines) ≡ read_lines asked r (suc n) (with_entry f n e) lines
   next_is r e h = ap (λ x. behind_line n f x (λ q g. read_lines asked q (suc n) g lines)) h
 
-  pub refused_is : (bytes : List ℕ) → read_lines asked s n f (line ∷ lines) ≡ module_of asked bytes → (w : Refusal) → AnswersAs {A = Stage × Item} (λ r. (r.0, entry_of r.1)) (Err w) (line_at asked s line) → Refuses asked bytes (fault_at n w)
+  pub refused_is : (bytes : List ℕ) → read_lines asked s n f (line ∷ lines) ≡ module_of asked bytes → (w : FileLineFault) → AnswersAs {A = Stage × Item} (λ r. (r.0, file_line_of r.1)) (Err w) (line_at asked s line) → RefusesModule asked bytes (fault_at n w)
   refused_is bytes same (Because w) h = sym same ∙ ap (λ x. behind_line n f x (λ q g. read_lines asked q (suc n) g lines)) h
   refused_is bytes same Memory h = tt
 

@@ -5,7 +5,7 @@ use std::alloc::{AllocError, AllocFailed};
 
 /// Why a line breaks the format of module files.
 #[derive(Debug, Drop)]
-pub enum Why {
+pub enum FileWhy {
     /// It is none of the lines that may stand there, or has a name that is no plain name of at most 63 bytes.
     Form,
     /// It begins with the word of a parameter or a declaration that may stand there, and is refused so.
@@ -14,47 +14,47 @@ pub enum Why {
 
 /// Why bytes are no module file.
 #[derive(Debug, Drop)]
-pub enum ModuleFault {
+pub enum FileFault {
     /// The line with this number is the first that breaks the format, and why. Lines are counted from 1, and one past the
     /// last is named where the line `end` is missing.
-    BadFile(usize, Why),
+    BadFile(usize, FileWhy),
     /// There was no memory for the module.
     Memory,
 }
 
 /// Why a line is refused.
 #[derive(Debug, Drop)]
-pub(crate) enum Refusal {
-    Because(Why),
+pub(crate) enum FileLineFault {
+    Because(FileWhy),
     Memory,
 }
 
-impl From<AllocError> for Refusal {
-    ghost use Rattle.pts_module_file.specs.declared.fault.Refusal.{Refusal};
+impl From<AllocError> for FileLineFault {
+    ghost use Rattle.pts_module_file.specs.declared.fault.FileLineFault.{FileLineFault};
 
-    ghost from_gives = { λ _ fault. fault ≡ Refusal.Memory };
+    ghost from_gives = { λ _ fault. fault ≡ FileLineFault.Memory };
 
-    fn from(_: AllocError) -> Refusal {
-        Refusal::Memory
+    fn from(_: AllocError) -> FileLineFault {
+        FileLineFault::Memory
     }
 }
 
-impl From<AllocError> for ModuleFault {
-    ghost use Rattle.pts_module_file.specs.declared.fault.ModuleFault.{ModuleFault};
+impl From<AllocError> for FileFault {
+    ghost use Rattle.pts_module_file.specs.declared.fault.FileFault.{FileFault};
 
-    ghost from_gives = { λ _ fault. fault ≡ ModuleFault.Memory };
+    ghost from_gives = { λ _ fault. fault ≡ FileFault.Memory };
 
-    fn from(_: AllocError) -> ModuleFault {
-        ModuleFault::Memory
+    fn from(_: AllocError) -> FileFault {
+        FileFault::Memory
     }
 }
 
-impl<T: Drop> From<AllocFailed<T>> for ModuleFault {
-    ghost use Rattle.pts_module_file.specs.declared.fault.ModuleFault.{ModuleFault};
+impl<T: Drop> From<AllocFailed<T>> for FileFault {
+    ghost use Rattle.pts_module_file.specs.declared.fault.FileFault.{FileFault};
 
-    ghost from_gives = { λ _ fault. fault ≡ ModuleFault.Memory };
+    ghost from_gives = { λ _ fault. fault ≡ FileFault.Memory };
 
-    fn from(_: AllocFailed<T>) -> ModuleFault {
-        ModuleFault::Memory
+    fn from(_: AllocFailed<T>) -> FileFault {
+        FileFault::Memory
     }
 }

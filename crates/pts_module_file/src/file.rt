@@ -2,13 +2,13 @@ ghost use Rattle.std.specs.Prelude.{◌≡◌, true, Ok, IfOk, IfErr};
 ghost use Rattle.pts_lines.specs.Seen.{declaration_of};
 ghost use Rattle.pts_module_file.specs.Lines.{declares};
 ghost use Rattle.pts_names.specs.Name.{is_short};
-ghost use Rattle.pts_module_file.specs.File.{file_of, stated_of, with_entry, entry_of, module_of, fault_at, Refuses, AllShort};
+ghost use Rattle.pts_module_file.specs.File.{module_file_of, stated_of, with_entry, file_line_of, module_of, fault_at, RefusesModule, AllShort};
 
-use crate::fault::{ModuleFault, Refusal, Why};
+use crate::fault::{FileFault, FileLineFault, FileWhy};
 use crate::item::line_at;
 use crate::split::split_line;
 use crate::stage::{Item, Stage};
-use pts_lines::Declaration;
+use pts_lines::DeclaringLine;
 use pts_names::Name;
 use pts_grammar::Tree;
 use std::alloc::{AllocFailed, Global};
@@ -23,7 +23,7 @@ pub enum ModuleLine {
 /// What a module file says, each with the number of its line: the modules that it uses, its parameters with their types,
 /// and its declarations. Names are not looked up.
 #[derive(Debug, Drop)]
-pub struct Module {
+pub struct ModuleFile {
     pub uses: Vec<(usize, Name)>,
     pub parameters: Vec<(usize, Name, Tree)>,
     pub declarations: Vec<(usize, ModuleLine)>,
@@ -36,22 +36,22 @@ pub struct Module {
 /// `BadFile` names the first line that breaks the format, or one past the last where `end` is missing. It is `Read` for
 /// the tokens and the grammar of a line that begins with the word of a parameter or a declaration and may stand there,
 /// and `Form` for all else.
-pub fn read_module(alloc: Global, name: &Name, bytes: &[u8]) -> Result<Module, ModuleFault>
-    ensures module { IfOk result (λ m. module_of name.now bytes.now ≡ Ok (file_of m)) }
+pub fn read_module(alloc: Global, name: &Name, bytes: &[u8]) -> Result<ModuleFile, FileFault>
+    ensures module { IfOk result (λ m. module_of name.now bytes.now ≡ Ok (module_file_of m)) }
     ensures short { IfOk result (λ m. is_short name.now ≡ true) }
-    ensures names { IfOk result (λ m. AllShort (file_of m).stated) }
-    ensures refused { IfErr result (λ e. Refuses name.now bytes.now e) }
+    ensures names { IfOk result (λ m. AllShort (module_file_of m).stated) }
+    ensures refused { IfErr result (λ e. RefusesModule name.now bytes.now e) }
 {
     read_all(alloc, name, bytes)
 }
 
 // The same, of which the names aren't spoken of.
 #[tactic(auto, unfolding(crate::specs::File::module_of))]
-fn read_all(alloc: Global, name: &Name, bytes: &[u8]) -> Result<Module, ModuleFault>
-    ensures module { IfOk result (λ m. module_of name.now bytes.now ≡ Ok (file_of m)) }
-    ensures refused { IfErr result (λ e. Refuses name.now bytes.now e) }
+fn read_all(alloc: Global, name: &Name, bytes: &[u8]) -> Result<ModuleFile, FileFault>
+    ensures module { IfOk result (λ m. module_of name.now bytes.now ≡ Ok (module_file_of m)) }
+    ensures refused { IfErr result (λ e. RefusesModule name.now bytes.now e) }
 {
-    let mut module = Module {
+    let mut module = ModuleFile {
         uses: Vec::new(alloc),
         parameters: Vec::new(alloc),
         declarations: Vec::new(alloc),
@@ -70,16 +70,16 @@ fn read_all(alloc: Global, name: &Name, bytes: &[u8]) -> Result<Module, ModuleFa
         rest = behind;
     }
     if stage != Stage::Ended {
-        return Err(ModuleFault::BadFile(number, Why::Form));
+        return Err(FileFault::BadFile(number, FileWhy::Form));
     }
     Ok(module)
 }
 
-impl Module {
+impl ModuleFile {
     /// Adds what a line says.
-    fn add(&mut self, number: usize, item: Item) -> Result<(), ModuleFault>
-        ensures added { IfOk result (λ u. file_of self.new ≡ with_entry (file_of self.old) number (entry_of item)) }
-        ensures memory { IfErr result (λ e. e ≡ ModuleFault.Memory) }
+    fn add(&mut self, number: usize, item: Item) -> Result<(), FileFault>
+        ensures added { IfOk result (λ u. module_file_of self.new ≡ with_entry (module_file_of self.old) number (file_line_of item)) }
+        ensures memory { IfErr result (λ e. e ≡ FileFault.Memory) }
     {
         match item {
             Item::Passed | Item::Fixed => {}
@@ -90,14 +90,14 @@ impl Module {
     }
 
     /// Adds a parameter or a declaration.
-    fn declare(&mut self, number: usize, declaration: Declaration) -> Result<(), ModuleFault>
-        ensures added { IfOk result (λ u. file_of self.new ≡ with_entry (file_of self.old) number (declares (declaration_of declaration))) }
-        ensures memory { IfErr result (λ e. e ≡ ModuleFault.Memory) }
+    fn declare(&mut self, number: usize, declaration: DeclaringLine) -> Result<(), FileFault>
+        ensures added { IfOk result (λ u. module_file_of self.new ≡ with_entry (module_file_of self.old) number (declares (declaration_of declaration))) }
+        ensures memory { IfErr result (λ e. e ≡ FileFault.Memory) }
     {
         match declaration {
-            Declaration::Parameter(name, ty) => self.parameters.push((number, name, ty))?,
-            Declaration::Assume(name, ty) => self.state(number, ModuleLine::Assume(name, ty))?,
-            Declaration::Define(name, ty, body) => {
+            DeclaringLine::Parameter(name, ty) => self.parameters.push((number, name, ty))?,
+            DeclaringLine::Assume(name, ty) => self.state(number, ModuleLine::Assume(name, ty))?,
+            DeclaringLine::Define(name, ty, body) => {
                 self.state(number, ModuleLine::Define(name, ty, body))?
             }
         }
@@ -105,9 +105,9 @@ impl Module {
     }
 
     /// Adds a declaration.
-    fn state(&mut self, number: usize, line: ModuleLine) -> Result<(), ModuleFault>
-        ensures added { IfOk result (λ u. file_of self.new ≡ with_entry (file_of self.old) number (declares (declaration_of (stated_of line)))) }
-        ensures memory { IfErr result (λ e. e ≡ ModuleFault.Memory) }
+    fn state(&mut self, number: usize, line: ModuleLine) -> Result<(), FileFault>
+        ensures added { IfOk result (λ u. module_file_of self.new ≡ with_entry (module_file_of self.old) number (declares (declaration_of (stated_of line)))) }
+        ensures memory { IfErr result (λ e. e ≡ FileFault.Memory) }
     {
         self.declarations.push((number, line))?;
         Ok(())
@@ -115,11 +115,11 @@ impl Module {
 }
 
 /// A refusal of this line.
-fn at_line(number: usize, refusal: Refusal) -> ModuleFault
+fn at_line(number: usize, refusal: FileLineFault) -> FileFault
     ensures { result ≡ fault_at number refusal }
 {
     match refusal {
-        Refusal::Because(why) => ModuleFault::BadFile(number, why),
-        Refusal::Memory => ModuleFault::Memory,
+        FileLineFault::Because(why) => FileFault::BadFile(number, why),
+        FileLineFault::Memory => FileFault::Memory,
     }
 }

@@ -3,14 +3,14 @@ ghost use Rattle.std.specs.Str.{is_utf8};
 ghost use Rattle.pts_names.specs.Name.{same_name, is_plain, is_short};
 ghost use Rattle.pts_lines.specs.Reading.{declaration_said, declared_first};
 ghost use Rattle.pts_lines.specs.Seen.{declaration_of};
-ghost use Rattle.pts_module_file.specs.File.{AnswersAs, entry_of, IsRead};
+ghost use Rattle.pts_module_file.specs.File.{AnswersAs, file_line_of, IsRead};
 ghost use Rattle.pts_module_file.specs.Lines as lines;
 ghost use Rattle.pts_module_file.specs.Lines.{is_short_text, is_passed, has_short_name, name_of};
 
-use crate::fault::{Refusal, Why};
+use crate::fault::{FileLineFault, FileWhy};
 use crate::stage::{Item, Stage, behind, may_declare};
 use pts_bytes::{is_text, text_of};
-use pts_lines::{Declaration, Declaring, declaring_word, read_declaration};
+use pts_lines::{DeclaringLine, Declaring, declaring_word, read_declaration};
 use pts_names::{Name, NameFault};
 use pts_parser::ReadFault;
 use std::alloc::{AllocError, Global};
@@ -21,11 +21,11 @@ pub(crate) fn line_at(
     asked: &Name,
     stage: Stage,
     line: &[u8],
-) -> Result<(Stage, Item), Refusal>
-    ensures { AnswersAs (λ r. (r.0, entry_of r.1)) result (lines.line_at asked.now stage line.now) }
+) -> Result<(Stage, Item), FileLineFault>
+    ensures { AnswersAs (λ r. (r.0, file_line_of r.1)) result (lines.line_at asked.now stage line.now) }
 {
     let Some(text) = text_of(line) else {
-        return Err(Refusal::Because(Why::Form));
+        return Err(FileLineFault::Because(FileWhy::Form));
     };
     if is_passed(line) {
         return Ok((stage, Item::Passed));
@@ -40,9 +40,9 @@ fn staged_line(
     stage: Stage,
     line: &[u8],
     text: &str,
-) -> Result<(Stage, Item), Refusal>
+) -> Result<(Stage, Item), FileLineFault>
     requires { text.now ≡ line.now }
-    ensures { AnswersAs (λ r. (r.0, entry_of r.1)) result (lines.staged_line asked.now stage line.now) }
+    ensures { AnswersAs (λ r. (r.0, file_line_of r.1)) result (lines.staged_line asked.now stage line.now) }
 {
     match stage {
         Stage::Format => format_line(line),
@@ -50,37 +50,37 @@ fn staged_line(
         Stage::Uses => uses_line(alloc, line, text),
         Stage::Parameters => later_line(alloc, Stage::Parameters, text),
         Stage::Declarations => later_line(alloc, Stage::Declarations, text),
-        Stage::Ended => Err(Refusal::Because(Why::Form)),
+        Stage::Ended => Err(FileLineFault::Because(FileWhy::Form)),
     }
 }
 
 /// The first line.
-fn format_line(line: &[u8]) -> Result<(Stage, Item), Refusal>
-    ensures { AnswersAs (λ r. (r.0, entry_of r.1)) result (lines.format_line line.now) }
+fn format_line(line: &[u8]) -> Result<(Stage, Item), FileLineFault>
+    ensures { AnswersAs (λ r. (r.0, file_line_of r.1)) result (lines.format_line line.now) }
 {
     if is_text(line, "yarrow-module 1") {
         return Ok((Stage::Module, Item::Fixed));
     }
-    Err(Refusal::Because(Why::Form))
+    Err(FileLineFault::Because(FileWhy::Form))
 }
 
 /// The line with the module's name.
 #[tactic(auto, using(crate::proofs::Fronts::front_is, crate::proofs::Fronts::back_is))]
-fn module_line(asked: &Name, line: &[u8]) -> Result<(Stage, Item), Refusal>
-    ensures { AnswersAs (λ r. (r.0, entry_of r.1)) result (lines.module_line asked.now line.now) }
+fn module_line(asked: &Name, line: &[u8]) -> Result<(Stage, Item), FileLineFault>
+    ensures { AnswersAs (λ r. (r.0, file_line_of r.1)) result (lines.module_line asked.now line.now) }
 {
     let (front, name) = line.split_at(line.len().min(7));
     if asked.is_short() && is_text(front, "module ") && is_text(name, asked.text()) {
         return Ok((Stage::Uses, Item::Fixed));
     }
-    Err(Refusal::Because(Why::Form))
+    Err(FileLineFault::Because(FileWhy::Form))
 }
 
 /// A line that says what is used, or what may stand behind those.
 #[tactic(auto, using(crate::proofs::Fronts::front_is, crate::proofs::Fronts::back_is))]
-fn uses_line(alloc: Global, line: &[u8], text: &str) -> Result<(Stage, Item), Refusal>
+fn uses_line(alloc: Global, line: &[u8], text: &str) -> Result<(Stage, Item), FileLineFault>
     requires { text.now ≡ line.now }
-    ensures { AnswersAs (λ r. (r.0, entry_of r.1)) result (lines.uses_line line.now) }
+    ensures { AnswersAs (λ r. (r.0, file_line_of r.1)) result (lines.uses_line line.now) }
 {
     let (front, name) = line.split_at(line.len().min(5));
     if is_text(front, "uses ") {
@@ -92,13 +92,13 @@ fn uses_line(alloc: Global, line: &[u8], text: &str) -> Result<(Stage, Item), Re
 }
 
 /// A parameter or a declaration, or the end.
-fn later_line(alloc: Global, stage: Stage, text: &str) -> Result<(Stage, Item), Refusal>
-    ensures { AnswersAs (λ r. (r.0, entry_of r.1)) result (lines.later_line stage text.now) }
+fn later_line(alloc: Global, stage: Stage, text: &str) -> Result<(Stage, Item), FileLineFault>
+    ensures { AnswersAs (λ r. (r.0, file_line_of r.1)) result (lines.later_line stage text.now) }
 {
     match declaring_word(alloc, text)? {
         Some(declaring) => {
             if !may_declare(stage, declaring) {
-                return Err(Refusal::Because(Why::Form));
+                return Err(FileLineFault::Because(FileWhy::Form));
             }
             declared(alloc, text)
         }
@@ -107,18 +107,18 @@ fn later_line(alloc: Global, stage: Stage, text: &str) -> Result<(Stage, Item), 
 }
 
 /// The line `end`.
-fn ending(stage: Stage, text: &str) -> Result<(Stage, Item), Refusal>
-    ensures { AnswersAs (λ r. (r.0, entry_of r.1)) result (lines.ending stage text.now) }
+fn ending(stage: Stage, text: &str) -> Result<(Stage, Item), FileLineFault>
+    ensures { AnswersAs (λ r. (r.0, file_line_of r.1)) result (lines.ending stage text.now) }
 {
     if may_declare(stage, Declaring::Assume) && is(text.as_bytes(), "end") {
         return Ok((Stage::Ended, Item::Fixed));
     }
-    Err(Refusal::Because(Why::Form))
+    Err(FileLineFault::Because(FileWhy::Form))
 }
 
 /// A declaration that may stand there.
-fn declared(alloc: Global, text: &str) -> Result<(Stage, Item), Refusal>
-    ensures { AnswersAs (λ r. (r.0, entry_of r.1)) result (lines.declared (declaration_said text.now)) }
+fn declared(alloc: Global, text: &str) -> Result<(Stage, Item), FileLineFault>
+    ensures { AnswersAs (λ r. (r.0, file_line_of r.1)) result (lines.declared (declaration_said text.now)) }
 {
     match read_declaration(alloc, text) {
         Ok(declaration) => with_short_name(declaration),
@@ -127,45 +127,45 @@ fn declared(alloc: Global, text: &str) -> Result<(Stage, Item), Refusal>
 }
 
 /// A declaration, if its name is short.
-fn with_short_name(declaration: Declaration) -> Result<(Stage, Item), Refusal>
-    ensures { AnswersAs (λ r. (r.0, entry_of r.1)) result (lines.with_short_name (declaration_of declaration)) }
+fn with_short_name(declaration: DeclaringLine) -> Result<(Stage, Item), FileLineFault>
+    ensures { AnswersAs (λ r. (r.0, file_line_of r.1)) result (lines.with_short_name (declaration_of declaration)) }
 {
     let declaring = declaring_of(&declaration);
     if !name_of(&declaration).is_short() {
-        return Err(Refusal::Because(Why::Form));
+        return Err(FileLineFault::Because(FileWhy::Form));
     }
     Ok((behind(declaring), Item::Declared(declaration)))
 }
 
 /// What a declaration is.
-fn declaring_of(declaration: &Declaration) -> Declaring
+fn declaring_of(declaration: &DeclaringLine) -> Declaring
     ensures { result ≡ (declaration_of declaration.now).0 }
 {
     match declaration {
-        Declaration::Parameter(_, _) => Declaring::Parameter,
-        Declaration::Assume(_, _) => Declaring::Assume,
-        Declaration::Define(_, _, _) => Declaring::Define,
+        DeclaringLine::Parameter(_, _) => Declaring::Parameter,
+        DeclaringLine::Assume(_, _) => Declaring::Assume,
+        DeclaringLine::Define(_, _, _) => Declaring::Define,
     }
 }
 
 /// Its name.
-fn name_of(declaration: &Declaration) -> &Name
+fn name_of(declaration: &DeclaringLine) -> &Name
     ensures { Some result.now ≡ name_of (declaration_of declaration.now).1 }
 {
     match declaration {
-        Declaration::Parameter(name, _) => name,
-        Declaration::Assume(name, _) => name,
-        Declaration::Define(name, _, _) => name,
+        DeclaringLine::Parameter(name, _) => name,
+        DeclaringLine::Assume(name, _) => name,
+        DeclaringLine::Define(name, _, _) => name,
     }
 }
 
 /// The refusal of a line that is no declaration.
-fn refusal_of(fault: ReadFault) -> Refusal
+fn refusal_of(fault: ReadFault) -> FileLineFault
     ensures { IsRead fault result }
 {
     match fault {
-        ReadFault::Memory => Refusal::Memory,
-        other => Refusal::Because(Why::Read(other)),
+        ReadFault::Memory => FileLineFault::Memory,
+        other => FileLineFault::Because(FileWhy::Read(other)),
     }
 }
 

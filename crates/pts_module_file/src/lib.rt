@@ -1,4 +1,4 @@
-//! Module files.
+//! ModuleFile files.
 //! The bytes of a file are read as its lines, or refused at the first line that breaks the format.
 //! Stands on the lines of declarations.
 #![tactic(auto)]
@@ -11,5 +11,5 @@ mod stage;
 #[cfg(test)]
 mod tests;
 
-pub use fault::{ModuleFault, Why};
-pub use file::{Module, ModuleLine, read_module};
+pub use fault::{FileFault, FileWhy};
+pub use file::{ModuleFile, ModuleLine, read_module};

@@ -1,7 +1,7 @@
 ghost use Rattle.std.specs.Prelude.{◌≡◌};
 ghost use Rattle.pts_module_file.specs.Lines as lines;
 
-use pts_lines::{Declaration, Declaring};
+use pts_lines::{DeclaringLine, Declaring};
 use pts_names::Name;
 
 /// What may come next in a file.
@@ -29,7 +29,7 @@ pub(crate) enum Item {
     /// The line of the format, of the module's name, or the last one.
     Fixed,
     Uses(Name),
-    Declared(Declaration),
+    Declared(DeclaringLine),
 }
 
 /// Whether a parameter or a declaration may stand there.

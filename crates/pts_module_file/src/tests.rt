@@ -1,16 +1,16 @@
-use crate::{Module, ModuleFault, Why, read_module};
+use crate::{ModuleFile, FileFault, FileWhy, read_module};
 use pts_names::Name;
 use pts_parser::{Kind, ReadFault};
 use std::alloc::Global;
 
-fn module_m(alloc: Global, text: &str) -> Result<Module, ModuleFault> {
+fn module_m(alloc: Global, text: &str) -> Result<ModuleFile, FileFault> {
     match Name::read(alloc, "m") {
         Ok(name) => read_module(alloc, &name, text.as_bytes()),
-        Err(_) => Err(ModuleFault::Memory),
+        Err(_) => Err(FileFault::Memory),
     }
 }
 
-fn is_whole(read: &Result<Module, ModuleFault>) -> bool {
+fn is_whole(read: &Result<ModuleFile, FileFault>) -> bool {
     match read {
         Ok(module) => module.uses.len() == 1
             && module.parameters.len() == 1
@@ -19,16 +19,16 @@ fn is_whole(read: &Result<Module, ModuleFault>) -> bool {
     }
 }
 
-fn breaks_at(read: &Result<Module, ModuleFault>, line: usize) -> bool {
+fn breaks_at(read: &Result<ModuleFile, FileFault>, line: usize) -> bool {
     match read {
-        Err(ModuleFault::BadFile(number, Why::Form)) => *number == line,
+        Err(FileFault::BadFile(number, FileWhy::Form)) => *number == line,
         _ => false,
     }
 }
 
-fn is_refused_for(read: &Result<Module, ModuleFault>, kind: Kind) -> bool {
+fn is_refused_for(read: &Result<ModuleFile, FileFault>, kind: Kind) -> bool {
     match read {
-        Err(ModuleFault::BadFile(3, Why::Read(ReadFault::Expected(_, wanted)))) => *wanted == kind,
+        Err(FileFault::BadFile(3, FileWhy::Read(ReadFault::Expected(_, wanted)))) => *wanted == kind,
         _ => false,
     }
 }

@@ -9,7 +9,7 @@ use Rattle.pts_record.specs.declared.measure.Measure.{Measure}
 use Rattle.pts_record.specs.declared.shape.Node.{Node}
 use Rattle.pts_record.specs.declared.shape.Extent.{Extent}
 use Rattle.pts_record.specs.Table.{Tables, bare_trees, bare_at, named_trees, named_at, AllBelow, shape_links, node_links, term_links, measure, unfold_shape, no_name, the_name}
-use Rattle.pts_record.specs.Said.{nothing, look, say, lines_of, said_behind, told, named_told, extent, say_as, line_of}
+use Rattle.pts_record.specs.Said.{nothing, look, say, rows_of, said_behind, told, named_told, extent, say_as, row_of_node}
 use Rattle.pts_record.specs.Kept.{Kept, tables}
 use Rattle.pts_record.proofs.Linked.{shape_linked, node_linked, below_more}
 use Rattle.pts_record.proofs.Trees.{bare_here, named_here, bare_long}
@@ -60,7 +60,7 @@ module _ (ss : List Shape) (ms : List Measure) (ns : List Node) (es : List Exten
       let b = node_linked ns (length ss) 0 k n kept.nodes (omega (arith, h, l)) in
       below_more (length ss) (length r.shapes) (term_links n) (omega (arith, m)) (subst (λ x. AllBelow (length ss) (term_links x)) (sym e) b.1)
 
-  pub node_says : Kept ss ms ns es → tables ss ns ≡ r → (k : ℕ) (n : Node) → k < length r.nodes → n ≡ get_or ns k n → told r k ≡ say_as n.form k (line_of (bare_trees r.shapes) n) (told r n.ctx) (told r n.first)
+  pub node_says : Kept ss ms ns es → tables ss ns ≡ r → (k : ℕ) (n : Node) → k < length r.nodes → n ≡ get_or ns k n → told r k ≡ say_as n.form k (row_of_node (bare_trees r.shapes) n) (told r n.ctx) (told r n.first)
   node_says kept v k n h e =
       let same : ns ≡ r.nodes = ap (λ t. t.nodes) v in
       let g = slice_get-get_or r.nodes k n h in
@@ -68,7 +68,7 @@ module _ (ss : List Shape) (ms : List Measure) (ns : List Node) (es : List Exten
       let item : slice_get r.nodes k ≡ Some n = g ∙ ap Some (at_k ∙ sym e) in
       told_here r k n h item (node_links_are kept v k n h e)
 
-  pub node_says_named : Kept ss ms ns es → tables ss ns ≡ r → (k : ℕ) (n : Node) → k < length r.nodes → n ≡ get_or ns k n → named_told r k ≡ say_as n.form k (line_of (named_trees r.shapes) n) (named_told r n.ctx) (named_told r n.first)
+  pub node_says_named : Kept ss ms ns es → tables ss ns ≡ r → (k : ℕ) (n : Node) → k < length r.nodes → n ≡ get_or ns k n → named_told r k ≡ say_as n.form k (row_of_node (named_trees r.shapes) n) (named_told r n.ctx) (named_told r n.first)
   node_says_named kept v k n h e =
       let same : ns ≡ r.nodes = ap (λ t. t.nodes) v in
       let g = slice_get-get_or r.nodes k n h in
@@ -86,19 +86,19 @@ module _ (ss : List Shape) (ms : List Measure) (ns : List Node) (es : List Exten
       let long : k < length (bare_trees ss) = omega (arith, h, bare_long ss, ap (λ t. length t.shapes) v) in
       e ∙ ap (λ xs. get_or xs k m) kept.measures ∙ get_or-map measure (bare_trees ss) k (sort 0) m long ∙ ap (λ xs. measure (bare_at xs k)) same
 
-  said_long : length (said_behind [] (lines_of (tables ss ns))) ≡ length ns
-  said_long = values_long say (lines_of (tables ss ns)) [] ∙ omega (arith, lines_long (tables ss ns))
+  said_long : length (said_behind [] (rows_of (tables ss ns))) ≡ length ns
+  said_long = values_long say (rows_of (tables ss ns)) [] ∙ omega (arith, lines_long (tables ss ns))
 
   pub extents_long : Kept ss ms ns es → tables ss ns ≡ r → length es ≡ length r.nodes
   extents_long kept v =
-      ap length kept.extents ∙ length-map (said_behind [] (lines_of (tables ss ns))) extent ∙ said_long ∙ ap (λ t. length t.nodes) v
+      ap length kept.extents ∙ length-map (said_behind [] (rows_of (tables ss ns))) extent ∙ said_long ∙ ap (λ t. length t.nodes) v
 
   pub extent_is : Kept ss ms ns es → tables ss ns ≡ r → (k : ℕ) (x : Extent) → k < length r.nodes → x ≡ get_or es k x → x ≡ extent (told r k)
   unfolding told
   extent_is kept v k x h e =
-      let all = said_behind [] (lines_of (tables ss ns)) in
+      let all = said_behind [] (rows_of (tables ss ns)) in
       let long : k < length all = omega (arith, h, said_long, ap (λ t. length t.nodes) v) in
-      e ∙ ap (λ xs. get_or xs k x) kept.extents ∙ get_or-map extent all k nothing x long ∙ ap (λ t. extent (look (said_behind [] (lines_of t)) k)) v
+      e ∙ ap (λ xs. get_or xs k x) kept.extents ∙ get_or-map extent all k nothing x long ∙ ap (λ t. extent (look (said_behind [] (rows_of t)) k)) v
 
   pub measure_small : Kept ss ms ns es → tables ss ns ≡ r → (k : ℕ) (m : Measure) → k < length r.shapes → m ≡ get_or ms k m → (m.depth ≤ 2000) × (m.size ≤ 1000000)
   measure_small kept v k m h e =
@@ -145,7 +145,7 @@ entries_long ss ms ns es kept (suc b) k d h lt =
     let here : n ≡ get_or ns k n = get_or_any ns k d n h in
     let links = node_links_are ss ms ns es r kept refl k n h here in
     let says = node_says ss ms ns es r kept refl k n h here in
-    let le = say_long n.form k (line_of (bare_trees ss) n) (told r n.ctx) (told r n.first) n.ctx n.first n.second n.third links
+    let le = say_long n.form k (row_of_node (bare_trees ss) n) (told r n.ctx) (told r n.first) n.ctx n.first n.second n.third links
     (λ g. entries_long ss ms ns es kept b n.ctx d (omega (arith, g, h)) (omega (arith, g, lt)))
     (λ g. entries_long ss ms ns es kept b n.first d (omega (arith, g, h)) (omega (arith, g, lt))) in
     subst (λ m. length (scope_of m).entries ≤ k) (sym says) le

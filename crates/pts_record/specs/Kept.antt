@@ -6,7 +6,7 @@ use Rattle.pts_record.specs.declared.measure.Measure.{Measure}
 use Rattle.pts_record.specs.declared.shape.Node.{Node}
 use Rattle.pts_record.specs.declared.shape.Extent.{Extent}
 use Rattle.pts_record.specs.Table.{Tables, ShapesLinked, NodesLinked, bare_trees, measure}
-use Rattle.pts_record.specs.Said.{lines_of, said_behind, extent}
+use Rattle.pts_record.specs.Said.{rows_of, said_behind, extent}
 
 abbrev pub tables : List Shape → List Node → Tables
 tables ss ns = record { shapes = ss; nodes = ns }
@@ -18,4 +18,4 @@ pub record Kept (ss : List Shape) (ms : List Measure) (ns : List Node) (es : Lis
   pub nodes : NodesLinked (length ss) 0 ns
   pub measures : ms ≡ map measure (bare_trees ss)
   pub limits : All (λ t. within t ≡ true) (bare_trees ss)
-  pub extents : es ≡ map extent (said_behind [] (lines_of (tables ss ns)))
+  pub extents : es ≡ map extent (said_behind [] (rows_of (tables ss ns)))

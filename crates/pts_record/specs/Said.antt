@@ -18,7 +18,7 @@ has_terms BareForm = false
 has_terms _ = true
 
 -- A node with the trees of its terms; those of a context say nothing.
-pub record Line (B : Type 0) : Type 0 where
+pub record Row (B : Type 0) : Type 0 where
   pub form : Form
   pub ctx : ℕ
   pub subject : Tree B
@@ -27,8 +27,8 @@ pub record Line (B : Type 0) : Type 0 where
   pub second : ℕ
   pub third : ℕ
 
-abbrev pub line_of : {B : Type 0} → List (Tree B) → Node → Line B
-line_of ts n = record { form = n.form; ctx = n.ctx; subject = (if has_terms n.form then at ts n.subject else sort 0); claim = (if has_terms n.form then at ts n.claim else sort 0); first = n.first; second = n.second; third = n.third }
+abbrev pub row_of_node : {B : Type 0} → List (Tree B) → Node → Row B
+row_of_node ts n = record { form = n.form; ctx = n.ctx; subject = (if has_terms n.form then at ts n.subject else sort 0); claim = (if has_terms n.form then at ts n.claim else sort 0); first = n.first; second = n.second; third = n.third }
 
 -- How a context was made: of nothing; from the judgement with a number, which is in the context with the second
 -- number; or from the context with a number.
@@ -117,7 +117,7 @@ abbrev pub longer : {B : Type 0} → ℕ → Made → Local B → Scope B → Sc
 longer k made e s = record { made = made; entries = e ∷ s.entries; trail = k ∷ s.trail }
 
 -- What the line with number k says, where c and p are what its links ctx and first say.
-abbrev pub say_as : {B : Type 0} → Form → ℕ → Line B → (c p : Said B) → Said B
+abbrev pub say_as : {B : Type 0} → Form → ℕ → Row B → (c p : Said B) → Said B
 say_as Empty k l c p = context (record { made = by_empty; entries = []; trail = k ∷ [] })
 say_as Assume k l c p = context (longer k (by_assume l.first (place_of p)) (assumed_by p) (scope_of p))
 say_as Define k l c p = context (longer k (by_define l.first (place_of p)) (defined_by p) (scope_of p))
@@ -130,24 +130,24 @@ say_as CongLam k l c p = comparison l.ctx (scope_of c) l.subject l.claim
 say_as CongPi k l c p = comparison l.ctx (scope_of c) l.subject l.claim
 say_as _ k l c p = judgement l.ctx (scope_of c) l.subject l.claim
 
-abbrev pub say : {B : Type 0} → List (Said B) → Line B → Said B
+abbrev pub say : {B : Type 0} → List (Said B) → Row B → Said B
 say ms l = say_as l.form (length ms) l (look ms l.ctx) (look ms l.first)
 
 -- What was said, and behind it what the lines say, in order.
-abbrev pub said_behind : {B : Type 0} → List (Said B) → List (Line B) → List (Said B)
+abbrev pub said_behind : {B : Type 0} → List (Said B) → List (Row B) → List (Said B)
 said_behind = values_behind say
 
 -- The lines of a record, without printed names.
-abbrev pub lines_of : Tables → List (Line (Unit {0}))
-lines_of r = map (line_of (bare_trees r.shapes)) r.nodes
+abbrev pub rows_of : Tables → List (Row (Unit {0}))
+rows_of r = map (row_of_node (bare_trees r.shapes)) r.nodes
 
 -- What the node with number k says, without printed names.
 unfoldable pub told : Tables → ℕ → Said (Unit {0})
-told r k = look (said_behind [] (lines_of r)) k
+told r k = look (said_behind [] (rows_of r)) k
 
 -- The same with printed names.
-abbrev pub named_lines_of : Tables → List (Line Name)
-named_lines_of r = map (line_of (named_trees r.shapes)) r.nodes
+abbrev pub named_lines_of : Tables → List (Row Name)
+named_lines_of r = map (row_of_node (named_trees r.shapes)) r.nodes
 
 unfoldable pub named_told : Tables → ℕ → Said Name
 named_told r k = look (said_behind [] (named_lines_of r)) k

@@ -4,7 +4,7 @@ ghost use Rattle.std.specs.Prelude.{◌≡◌, ◌<◌, ◌≤◌, ◌++◌, ◌
 ghost use Rattle.pts_terms.specs.Tree.{bare, same_term};
 ghost use Rattle.pts_terms.specs.Limits.{depth_of, size_of};
 ghost use Rattle.pts_record.specs.Table.{Tables, bare_trees, bare_at, named_at, named_trees, unfold_shape, no_name, the_name, AllBelow, NodesLinked, shape_links, node_links, term_links, term_fault, node_fault, kept_node, UnlessMemory, measure};
-ghost use Rattle.pts_record.specs.Said.{told, named_told, say_as, line_of, scope_of, extent, is_judgement};
+ghost use Rattle.pts_record.specs.Said.{told, named_told, say_as, row_of_node, scope_of, extent, is_judgement};
 
 use crate::hints::{Hints, node_key, term_key};
 use crate::links::{context_fault, kept, part_fault, premise_fault, terms_fault};
@@ -124,8 +124,8 @@ impl Record {
     pub fn node(&self, number: usize) -> Node
         requires { number < length self.now.nodes }
         ensures item { slice_get self.now.nodes number ≡ Some result }
-        ensures says { told self.now number ≡ say_as result.form number (line_of (bare_trees self.now.shapes) result) (told self.now result.ctx) (told self.now result.first) }
-        ensures named { named_told self.now number ≡ say_as result.form number (line_of (named_trees self.now.shapes) result) (named_told self.now result.ctx) (named_told self.now result.first) }
+        ensures says { told self.now number ≡ say_as result.form number (row_of_node (bare_trees self.now.shapes) result) (told self.now result.ctx) (told self.now result.first) }
+        ensures named { named_told self.now number ≡ say_as result.form number (row_of_node (named_trees self.now.shapes) result) (named_told self.now result.ctx) (named_told self.now result.first) }
         ensures links { AllBelow number (node_links result) }
         ensures terms { AllBelow (length self.now.shapes) (term_links result) }
     {
@@ -329,7 +329,7 @@ impl Record {
     fn extent_of(&self, node: &Node) -> Extent
         requires links { AllBelow (length self.now.nodes) (node_links node.now) }
         requires few { length self.now.nodes < 4294967296 }
-        ensures { result ≡ extent (say_as node.now.form (length self.now.nodes) (line_of (bare_trees self.now.shapes) node.now) (told self.now node.now.ctx) (told self.now node.now.first)) }
+        ensures { result ≡ extent (say_as node.now.form (length self.now.nodes) (row_of_node (bare_trees self.now.shapes) node.now) (told self.now node.now.ctx) (told self.now node.now.first)) }
     {
         match node.form {
             Form::Empty => Extent {

@@ -9,7 +9,7 @@ use Rattle.pts_reduce_cost.specs.Costs.{Globals, Entries}
 use Rattle.pts_reduce_cost.specs.Run.{ends, fails, turned, and_then}
 use Rattle.pts_reduce_cost.specs.Work.{reduced, of_part, Answer, Tester, agree, both_parts, forms_tested}
 use Rattle.pts_reduce_cost.proofs.Tests.{left_deep, left_spent, right_deep, right_spent, first_yes, part_yes, part_differs, part_deep, part_spent}
-use Rattle.pts_reduce.specs.declared.fault.Found.{Found}
+use Rattle.pts_reduce.specs.declared.fault.FoundDifference.{FoundDifference}
 use Rattle.pts_reduce.specs.declared.fault.Fault.{Fault}
 use Rattle.pts_reduce.specs.declared.fault.Fault.TheVariants.{Spent, Deep, Memory, Differ}
 use Rattle.pts_reduce.specs.Given.{PlainFault, TestFault, Tested, difference}
@@ -17,7 +17,7 @@ use Rattle.pts_reduce.specs.Given.{PlainFault, TestFault, Tested, difference}
 place_more : (ps : List ℕ) (i : ℕ) → reverse (ps ++ i ∷ []) ≡ i ∷ reverse ps
 place_more ps i = reverse-append ps (i ∷ [])
 
-seen_outwards : (ss : List Shape) (d e : Found) (i : ℕ) → e.place.items ≡ d.place.items ++ i ∷ [] → e.left ≡ d.left → e.right ≡ d.right → of_part i (difference ss d) ≡ difference ss e
+seen_outwards : (ss : List Shape) (d e : FoundDifference) (i : ℕ) → e.place.items ≡ d.place.items ++ i ∷ [] → e.left ≡ d.left → e.right ≡ d.right → of_part i (difference ss d) ≡ difference ss e
 seen_outwards ss d e i p q s =
     let x : reverse e.place.items ≡ i ∷ reverse d.place.items = ap reverse p ∙ place_more d.place.items i in
     let y = ap (named_at ss) q in
@@ -25,7 +25,7 @@ seen_outwards ss d e i p q s =
     cc
 
 -- A difference of a part is one of the whole.
-pub outwards : (ss : List Shape) (d e : Found) (i k : ℕ) (r : Answer) → e.place.items ≡ d.place.items ++ i ∷ [] → e.left ≡ d.left → e.right ≡ d.right → TestFault ss (Differ d) k r → TestFault ss (Differ e) k (turned (of_part i) r)
+pub outwards : (ss : List Shape) (d e : FoundDifference) (i k : ℕ) (r : Answer) → e.place.items ≡ d.place.items ++ i ∷ [] → e.left ≡ d.left → e.right ≡ d.right → TestFault ss (Differ d) k r → TestFault ss (Differ e) k (turned (of_part i) r)
 outwards ss d e i k r p q s h = (
   subst (λ n. n < length ss) (sym q) h.0,
   subst (λ n. n < length ss) (sym s) h.1,
@@ -40,7 +40,7 @@ outwards_spent ss i k r h = (part_spent (of_part i) r h.0, h.1)
 
 pub ruleset in_part_facts = (outwards, outwards_deep, outwards_spent)
 
-pub here : (ss : List Shape) (d : Found) (left right k : ℕ) → d.place.items ≡ [] → d.left ≡ left → d.right ≡ right → left < length ss → right < length ss → TestFault ss (Differ d) k (agree false (named_at ss left) (named_at ss right) k)
+pub here : (ss : List Shape) (d : FoundDifference) (left right k : ℕ) → d.place.items ≡ [] → d.left ≡ left → d.right ≡ right → left < length ss → right < length ss → TestFault ss (Differ d) k (agree false (named_at ss left) (named_at ss right) k)
 unfolding agree
 here ss d left right k p q s h g =
     let x : reverse d.place.items ≡ [] = ap reverse p in

@@ -9,7 +9,7 @@ use Rattle.pts_reduce_cost.specs.Run.{Run, ends, fails, deep, spent}
 use Rattle.pts_reduce_cost.specs.Work.{Difference, Answer}
 use Rattle.pts_grow.specs.declared.fault.TermFault.{TermFault}
 use Rattle.pts_grow.specs.declared.fault.TermFault.TheVariants as made
-use Rattle.pts_reduce.specs.declared.fault.Found.{Found}
+use Rattle.pts_reduce.specs.declared.fault.FoundDifference.{FoundDifference}
 use Rattle.pts_reduce.specs.declared.fault.Fault.{Fault}
 use Rattle.pts_reduce.specs.declared.fault.Fault.TheVariants.{Spent, Deep, Memory, Differ}
 
@@ -30,7 +30,7 @@ Gives value (Ok x) k r = r ≡ ends (value x) k
 Gives value (Err e) k r = PlainFault e k r
 
 -- The difference that was found, by the record's terms.
-abbrev pub difference : List Shape → Found → Difference
+abbrev pub difference : List Shape → FoundDifference → Difference
 difference ss d = record { place = reverse d.place.items; left = named_at ss d.left; right = named_at ss d.right }
 
 abbrev pub TestFault : List Shape → Fault → ℕ → Answer → Type 0

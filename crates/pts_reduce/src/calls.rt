@@ -17,7 +17,7 @@ ghost use Rattle.pts_reduce.specs.Answered.{Refused, Answered};
 use crate::ReduceFault;
 use crate::answer::{Conversion, Whnf};
 use crate::chain::{join_left, reduce};
-use crate::fault::{Fault, Found};
+use crate::fault::{Fault, FoundDifference};
 use crate::testing::convert_in;
 use pts_ctx::Context;
 use pts_grow::add_same;
@@ -95,7 +95,7 @@ pub fn convert(
     match convert_in(front, proof, ctx, left, right, 2000, meter) {
         Ok(compared) => Ok(Conversion::Yes(compared.node)),
         Err(Fault::Differ(found)) => {
-            let Found { place, left, right } = found.into_inner();
+            let FoundDifference { place, left, right } = found.into_inner();
             let mut place = place;
             place.reverse();
             Ok(Conversion::No {

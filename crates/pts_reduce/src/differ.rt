@@ -7,7 +7,7 @@ ghost use Rattle.pts_reduce_cost.specs.Run.{turned};
 ghost use Rattle.pts_reduce_cost.specs.Work.{Answer, of_part, agree};
 ghost use Rattle.pts_reduce.specs.Given.{TestFault};
 
-use crate::fault::{Fault, Found};
+use crate::fault::{Fault, FoundDifference};
 use pts_record::Boxed;
 use std::alloc::Global;
 
@@ -18,12 +18,12 @@ pub(crate) fn in_part(alloc: Global, fault: Fault, part: u8) -> Fault
 {
     match fault {
         Fault::Differ(found) => {
-            let Found { place, left, right } = found.into_inner();
+            let FoundDifference { place, left, right } = found.into_inner();
             let mut place = place;
             if place.push(part).is_err() {
                 return Fault::Memory;
             }
-            match Boxed::new(alloc, Found { place, left, right }) {
+            match Boxed::new(alloc, FoundDifference { place, left, right }) {
                 Ok(found) => Fault::Differ(found),
                 Err(_) => Fault::Memory,
             }
@@ -39,7 +39,7 @@ pub(crate) fn in_part(alloc: Global, fault: Fault, part: u8) -> Fault
 pub(crate) fn differ_here(alloc: Global, left: usize, right: usize) -> Fault
     ensures { (ss : List Shape) (k : ℕ) → left < length ss → right < length ss → TestFault ss result k (agree false (named_at ss left) (named_at ss right) k) }
 {
-    let found = Found {
+    let found = FoundDifference {
         place: Vec::new(alloc),
         left,
         right,

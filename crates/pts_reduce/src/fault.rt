@@ -30,7 +30,7 @@ impl From<AllocError> for ReduceFault {
 
 // Two forms that differ, and the numbers of the parts that lead to them, the innermost first.
 #[derive(Debug, Drop)]
-pub(crate) struct Found {
+pub(crate) struct FoundDifference {
     pub place: Vec<u8>,
     pub left: usize,
     pub right: usize,
@@ -42,7 +42,7 @@ pub(crate) enum Fault {
     Spent,
     Deep,
     Memory,
-    Differ(Boxed<Found>),
+    Differ(Boxed<FoundDifference>),
 }
 
 impl From<AllocError> for Fault {

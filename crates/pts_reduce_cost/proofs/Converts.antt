@@ -10,7 +10,7 @@ use Rattle.pts_rules.specs.Step.{Convertible, equal, forwards}
 use Rattle.pts_rules.proofs.HeadBare.{head_step_bare}
 use Rattle.pts_rules.proofs.HeadStep.{head_is_step}
 use Rattle.pts_rules.proofs.Conversion.{joined, turned, convertible_app, convertible_lam, convertible_pi}
-use Rattle.pts_reduce_cost.specs.Costs.{Globals, Entries, form, Reduct, Reduces, no_step, one_step, large_step, Verdict, yes_, no_, beyond, in_part, Pairing, leaves, parts, pairing, Tests, nested_too_deep, equal_terms, left_too_large, right_too_large, by_forms, Compares, alike, unlike, first_part, second_part}
+use Rattle.pts_reduce_cost.specs.Costs.{Globals, Entries, form, Reduct, Reduces, no_step, one_step, large_step, TestAnswer, yes_, no_, beyond, in_part, Pairing, leaves, parts, pairing, Tests, nested_too_deep, equal_terms, left_too_large, right_too_large, by_forms, Compares, alike, unlike, first_part, second_part}
 
 -- Two terms are convertible, apart from printed names.
 abbrev pub Joined : Globals → Entries → Named → Named → Type 0
@@ -41,20 +41,20 @@ pairing_joins G L (named_lam x A b) (named_lam y B c) = λ d e. convertible_lam 
 pairing_joins G L (named_pi x A b) (named_pi y B c) = λ d e. convertible_pi d e
 pairing_joins G L _ _ = λ h. absurd (cc h)
 
-part_yes : (i : ℕ) (o : Verdict) → in_part i o ≡ yes_ → o ≡ yes_
+part_yes : (i : ℕ) (o : TestAnswer) → in_part i o ≡ yes_ → o ≡ yes_
 part_yes i yes_ e = refl
 part_yes i (no_ place v w) e = absurd (cc e)
 part_yes i beyond e = absurd (cc e)
 
 mutual
-  test_joined : {G : Globals} {d : ℕ} {L : Entries} {t u : Named} {o : Verdict} {n : ℕ} → Tests G d L t u o n → o ≡ yes_ → Joined G L t u
+  test_joined : {G : Globals} {d : ℕ} {L : Entries} {t u : Named} {o : TestAnswer} {n : ℕ} → Tests G d L t u o n → o ≡ yes_ → Joined G L t u
   test_joined nested_too_deep e = absurd (cc e)
   test_joined {G} (equal_terms {d} {L} {t} {u} h) e = same_joined G L t u (same_term_eq (bare t) (bare u) h)
   test_joined (left_too_large h r) e = absurd (cc e)
   test_joined (right_too_large h r s) e = absurd (cc e)
   test_joined (by_forms {v = v} {w = w} h r s c) e = joined (reduct_joined r v refl) (joined (forms_joined c e) (turned (reduct_joined s w refl)))
 
-  forms_joined : {G : Globals} {d : ℕ} {L : Entries} {v w : Named} {o : Verdict} {n : ℕ} → Compares G d L v w o n → o ≡ yes_ → Joined G L v w
+  forms_joined : {G : Globals} {d : ℕ} {L : Entries} {v w : Named} {o : TestAnswer} {n : ℕ} → Compares G d L v w o n → o ≡ yes_ → Joined G L v w
   forms_joined {G} (alike {d} {L} {v} {w} p) e = same_joined G L v w (subst (Joins G L v w) p (pairing_joins G L v w) refl)
   forms_joined (unlike p) e = absurd (cc e)
   forms_joined (first_part {o = o} p c h) e = absurd (h (part_yes 0 o e))

@@ -5,7 +5,7 @@ use Rattle.std.specs.Prelude.{if◌then◌else◌}
 use Rattle.pts_terms.specs.Tree.{Named, bare, same_term}
 use Rattle.pts_terms.specs.Limits.{within}
 use Rattle.pts_rules.specs.Step.{head_step}
-use Rattle.pts_reduce_cost.specs.Costs.{Globals, Entries, Reduct, form, too_large, Reduces, no_step, one_step, large_step, Verdict, yes_, no_, beyond, Pairing, leaves, parts, pairing, Tests, nested_too_deep, equal_terms, left_too_large, right_too_large, by_forms, Compares, alike, unlike, first_part, second_part}
+use Rattle.pts_reduce_cost.specs.Costs.{Globals, Entries, Reduct, form, too_large, Reduces, no_step, one_step, large_step, TestAnswer, yes_, no_, beyond, Pairing, leaves, parts, pairing, Tests, nested_too_deep, equal_terms, left_too_large, right_too_large, by_forms, Compares, alike, unlike, first_part, second_part}
 use Rattle.pts_reduce_cost.specs.Run.{Run, ends, fails, deep, spent, and_then, paid, turned, checked}
 use Rattle.pts_reduce_cost.specs.Work.{stepped, after_step, reduced, formed, Difference, of_part, Answer, Tester, agree, both_parts, compared_as, compared, forms_tested, tested}
 use Rattle.pts_reduce_cost.specs.Laws.{WithinBudget, AboveBudget, IsReduction, IsTest}
@@ -18,7 +18,7 @@ ReductionComes costs b (fails e k) = ⊥
 ReductionComes costs b (deep k) = WithinBudget costs b too_large k
 ReductionComes costs b spent = Unit {0}
 
-abbrev TestComes : (Verdict → ℕ → Type 0) → ℕ → Answer → Type 0
+abbrev TestComes : (TestAnswer → ℕ → Type 0) → ℕ → Answer → Type 0
 TestComes costs b (ends x k) = WithinBudget costs b yes_ k
 TestComes costs b (fails d k) = WithinBudget costs b (no_ d.place d.left d.right) k
 TestComes costs b (deep k) = WithinBudget costs b beyond k
@@ -76,14 +76,14 @@ pub reduction_exact : (G : Globals) (L : Entries) (t : Named) (b : ℕ) → IsRe
 reduction_exact G L t b = is_reduction G L t b (reduced G L b t) refl (reduction_comes G L b t)
 
 -- The same costs above what was paid before.
-later : (P Q : Verdict → ℕ → Type 0) (f : ℕ → ℕ) (b c : ℕ) (r : Answer) → ((o : Verdict) (n : ℕ) → P o n → Q o (f n)) → ((n k : ℕ) → n + k ≡ b → f n + k ≡ c) → TestComes P b r → TestComes Q c r
+later : (P Q : TestAnswer → ℕ → Type 0) (f : ℕ → ℕ) (b c : ℕ) (r : Answer) → ((o : TestAnswer) (n : ℕ) → P o n → Q o (f n)) → ((n k : ℕ) → n + k ≡ b → f n + k ≡ c) → TestComes P b r → TestComes Q c r
 later P Q f b c (ends x k) g s (n, p, e) = (f n, g yes_ n p, s n k e)
 later P Q f b c (fails d k) g s (n, p, e) = (f n, g (no_ d.place d.left d.right) n p, s n k e)
 later P Q f b c (deep k) g s (n, p, e) = (f n, g beyond n p, s n k e)
 later P Q f b c spent g s h = tt
 
 -- What follows a reduction.
-formed_then : (P : Reduct → ℕ → Type 0) (Q : Verdict → ℕ → Type 0) (b : ℕ) (next : Named → ℕ → Answer) (r : Run ⊥ Named) → ReductionComes P b r → ((m : ℕ) → P too_large m → Q beyond m) → ((v : Named) (m k : ℕ) → P (form v) m → m + k ≡ b → TestComes Q b (next v k)) → TestComes Q b (and_then (turned (λ e. absurd e) r) next)
+formed_then : (P : Reduct → ℕ → Type 0) (Q : TestAnswer → ℕ → Type 0) (b : ℕ) (next : Named → ℕ → Answer) (r : Run ⊥ Named) → ReductionComes P b r → ((m : ℕ) → P too_large m → Q beyond m) → ((v : Named) (m k : ℕ) → P (form v) m → m + k ≡ b → TestComes Q b (next v k)) → TestComes Q b (and_then (turned (λ e. absurd e) r) next)
 unfolding and_then turned
 formed_then P Q b next (ends v k) (m, p, e) f g = g v m k p e
 formed_then P Q b next (fails e k) h f g = absurd h
@@ -138,7 +138,7 @@ test_comes G zero L t u (suc b) = (1, nested_too_deep, omega arith)
 test_comes G (suc d) L t u zero = tt
 test_comes G (suc d) L t u (suc b) = choice_comes G d L t u (tested G d) (λ M v w b. test_comes G d M v w b) b (same_term (bare t) (bare u)) refl
 
-not_unpaid : (o : Verdict) (k : ℕ) → spent ≢ of_verdict o k
+not_unpaid : (o : TestAnswer) (k : ℕ) → spent ≢ of_verdict o k
 not_unpaid yes_ k e = cc e
 not_unpaid (no_ place v w) k e = cc e
 not_unpaid beyond k e = cc e

@@ -27,13 +27,13 @@ pub data Reduces (G : Globals) (L : Entries) : Named → Reduct → ℕ → Type
 
 -- The test's answer: yes; no, with the place of the two forms that differ, as the numbers of the parts that lead there,
 -- and these forms; or that a term or the nesting of tests is beyond the limits.
-pub data Verdict : Type 0 where
-  yes_ : Verdict
-  no_ : (place : List ℕ) → (left right : Named) → Verdict
-  beyond : Verdict
+pub data TestAnswer : Type 0 where
+  yes_ : TestAnswer
+  no_ : (place : List ℕ) → (left right : Named) → TestAnswer
+  beyond : TestAnswer
 
 -- The answer of a part, seen from the whole.
-abbrev pub in_part : ℕ → Verdict → Verdict
+abbrev pub in_part : ℕ → TestAnswer → TestAnswer
 in_part i yes_ = yes_
 in_part i (no_ place t u) = no_ (i ∷ place) t u
 in_part i beyond = beyond
@@ -57,18 +57,18 @@ pairing L t u = leaves false
 -- not looked into. Others are reduced, the left one first, and their forms are compared.
 -- Compares G d L t u o n: the same of two forms.
 mutual
-  pub data Tests (G : Globals) : ℕ → Entries → Named → Named → Verdict → ℕ → Type 0 where
+  pub data Tests (G : Globals) : ℕ → Entries → Named → Named → TestAnswer → ℕ → Type 0 where
     nested_too_deep : {L : Entries} {t u : Named} → Tests G 0 L t u beyond 1
     equal_terms : {d : ℕ} {L : Entries} {t u : Named} → same_term (bare t) (bare u) ≡ true → Tests G (suc d) L t u yes_ 1
     left_too_large : {d : ℕ} {L : Entries} {t u : Named} {m : ℕ} → same_term (bare t) (bare u) ≡ false → Reduces G L t too_large m → Tests G (suc d) L t u beyond (suc m)
     right_too_large : {d : ℕ} {L : Entries} {t u v : Named} {m n : ℕ} → same_term (bare t) (bare u) ≡ false → Reduces G L t (form v) m → Reduces G L u too_large n → Tests G (suc d) L t u beyond (suc (m + n))
-    by_forms : {d : ℕ} {L : Entries} {t u v w : Named} {o : Verdict} {m n k : ℕ} → same_term (bare t) (bare u) ≡ false → Reduces G L t (form v) m → Reduces G L u (form w) n → Compares G d L v w o k → Tests G (suc d) L t u o (suc (m + (n + k)))
+    by_forms : {d : ℕ} {L : Entries} {t u v w : Named} {o : TestAnswer} {m n k : ℕ} → same_term (bare t) (bare u) ≡ false → Reduces G L t (form v) m → Reduces G L u (form w) n → Compares G d L v w o k → Tests G (suc d) L t u o (suc (m + (n + k)))
 
-  pub data Compares (G : Globals) : ℕ → Entries → Named → Named → Verdict → ℕ → Type 0 where
+  pub data Compares (G : Globals) : ℕ → Entries → Named → Named → TestAnswer → ℕ → Type 0 where
     alike : {d : ℕ} {L : Entries} {v w : Named} → pairing L v w ≡ leaves true → Compares G d L v w yes_ 0
     unlike : {d : ℕ} {L : Entries} {v w : Named} → pairing L v w ≡ leaves false → Compares G d L v w (no_ [] v w) 0
-    first_part : {d : ℕ} {L M : Entries} {v w t u a b : Named} {o : Verdict} {m : ℕ} → pairing L v w ≡ parts t u M a b → Tests G d L t u o m → o ≢ yes_ → Compares G d L v w (in_part 0 o) m
-    second_part : {d : ℕ} {L M : Entries} {v w t u a b : Named} {o : Verdict} {m n : ℕ} → pairing L v w ≡ parts t u M a b → Tests G d L t u yes_ m → Tests G d M a b o n → Compares G d L v w (in_part 1 o) (m + n)
+    first_part : {d : ℕ} {L M : Entries} {v w t u a b : Named} {o : TestAnswer} {m : ℕ} → pairing L v w ≡ parts t u M a b → Tests G d L t u o m → o ≢ yes_ → Compares G d L v w (in_part 0 o) m
+    second_part : {d : ℕ} {L M : Entries} {v w t u a b : Named} {o : TestAnswer} {m n : ℕ} → pairing L v w ≡ parts t u M a b → Tests G d L t u yes_ m → Tests G d M a b o n → Compares G d L v w (in_part 1 o) (m + n)
 
 -- How deep tests may be nested, the outermost one counted.
 abbrev pub nesting : ℕ

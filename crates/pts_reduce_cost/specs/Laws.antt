@@ -4,7 +4,7 @@ use Rattle.pts_terms.specs.Tree.{Named, bare}
 use Rattle.pts_ctx.specs.Front.{bare_front}
 use Rattle.pts_record.specs.Said.{bare_local}
 use Rattle.pts_rules.specs.Step.{Convertible}
-use Rattle.pts_reduce_cost.specs.Costs.{Globals, Entries, Reduct, form, too_large, Reduces, Verdict, yes_, no_, beyond, Tests}
+use Rattle.pts_reduce_cost.specs.Costs.{Globals, Entries, Reduct, form, too_large, Reduces, TestAnswer, yes_, no_, beyond, Tests}
 use Rattle.pts_reduce_cost.specs.Run.{Run, ends, fails, deep, spent}
 use Rattle.pts_reduce_cost.specs.Work.{reduced, tested, Answer}
 
@@ -13,7 +13,7 @@ abbrev pub ReductionHasOneOutcome : Type 0
 ReductionHasOneOutcome = (G : Globals) (L : Entries) (t : Named) (o p : Reduct) (m n : ℕ) → Reduces G L t o m → Reduces G L t p n → (o ≡ p) × (m ≡ n)
 
 abbrev pub TestsHaveOneOutcome : Type 0
-TestsHaveOneOutcome = (G : Globals) (d : ℕ) (L : Entries) (t u : Named) (o p : Verdict) (m n : ℕ) → Tests G d L t u o m → Tests G d L t u p n → (o ≡ p) × (m ≡ n)
+TestsHaveOneOutcome = (G : Globals) (d : ℕ) (L : Entries) (t u : Named) (o p : TestAnswer) (m n : ℕ) → Tests G d L t u o m → Tests G d L t u p n → (o ≡ p) × (m ≡ n)
 
 -- Work on b units is right for what has outcomes at costs: an outcome with its cost paid, or no outcome for b units.
 abbrev pub WithinBudget : {O : Type 0} → (O → ℕ → Type 0) → ℕ → O → ℕ → Type 0
@@ -28,7 +28,7 @@ IsReduction costs b (fails e k) = ⊥
 IsReduction costs b (deep k) = WithinBudget costs b too_large k
 IsReduction costs b spent = AboveBudget costs b
 
-abbrev pub IsTest : (Verdict → ℕ → Type 0) → ℕ → Answer → Type 0
+abbrev pub IsTest : (TestAnswer → ℕ → Type 0) → ℕ → Answer → Type 0
 IsTest costs b (ends x k) = WithinBudget costs b yes_ k
 IsTest costs b (fails d k) = WithinBudget costs b (no_ d.place d.left d.right) k
 IsTest costs b (deep k) = WithinBudget costs b beyond k

@@ -10,7 +10,7 @@ use Rattle.pts_ctx.specs.Front.{Global, Front, Fresh, Locals}
 use Rattle.pts_record.specs.declared.shape.Form.{Form}
 use Rattle.pts_record.specs.declared.shape.Form.TheVariants.{Empty, Assume, Define, Bare as BareForm, SortAt, ConstAt, VarAt, Thin, PiAt, LamAt, AppAt, LetSort, LetAt, Conv, Same, Left, Right, CongApp, CongLam, CongPi}
 use Rattle.pts_record.specs.Table.{Tables}
-use Rattle.pts_record.specs.Said.{nothing, context, judgement, comparison, look, claim_of, scope_of, say_as, say, said_behind, lines_of, told}
+use Rattle.pts_record.specs.Said.{nothing, context, judgement, comparison, look, claim_of, scope_of, say_as, say, said_behind, rows_of, told}
 use Rattle.pts_record.proofs.Looked.{look_before, look_at, look_past, one_longer}
 use Rattle.pts_rules.specs.declared.why.Why.{Why}
 use Rattle.pts_rules.specs.Derives.{Derives, Legal, legal_assumption, legal_definition}
@@ -117,12 +117,12 @@ nothing_said P none k = subst P (sym (look_past [] k (omega arith))) none
 -- What each node of a valid record over a legal front says is so.
 pub sound : (S : Specification) (G : Front) (r : Tables) → Legal S G → IsValid S G r → (k : ℕ) → Stands S G (told r k)
 unfolding first_fault told
-sound S G r legal v k = stand_behind S G [] (lines_of r) legal (nothing_said (Linked []) tt) (nothing_said (Stands S G) tt) v k
+sound S G r legal v k = stand_behind S G [] (rows_of r) legal (nothing_said (Linked []) tt) (nothing_said (Stands S G) tt) v k
 
 -- And it fits what its links say.
-pub links : (S : Specification) (G : Front) (r : Tables) → IsValid S G r → (k : ℕ) → Linked (said_behind [] (lines_of r)) (told r k)
+pub links : (S : Specification) (G : Front) (r : Tables) → IsValid S G r → (k : ℕ) → Linked (said_behind [] (rows_of r)) (told r k)
 unfolding first_fault told
-links S G r v k = links_behind S G [] (lines_of r) (nothing_said (Linked []) tt) v k
+links S G r v k = links_behind S G [] (rows_of r) (nothing_said (Linked []) tt) v k
 
 no_locals : (L : Locals) → is_empty L ≡ true → L ≡ []
 no_locals [] h = refl

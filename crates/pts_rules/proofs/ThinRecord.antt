@@ -9,7 +9,7 @@ use Rattle.pts_ctx.specs.Front.{Global, Front, HasEntries, find, Locals}
 use Rattle.pts_record.specs.declared.shape.Form.{Form}
 use Rattle.pts_record.specs.declared.shape.Form.TheVariants.{ConstAt, Left, Right}
 use Rattle.pts_record.specs.Table.{Tables}
-use Rattle.pts_record.specs.Said.{look, scope_of, subject_of, claim_of, say, lines_of}
+use Rattle.pts_record.specs.Said.{look, scope_of, subject_of, claim_of, say, rows_of}
 use Rattle.pts_rules.specs.Step.{head_step, body_of, apply_to}
 use Rattle.pts_rules.specs.Parts.{const_in, is_that}
 use Rattle.pts_rules.specs.Conditions.{Plain, Link, form_fault, const_conditions, left_conditions, right_conditions}
@@ -67,4 +67,4 @@ thin_behind S G H ms (l ∷ ls) h v =
 
 pub thin_record : (S : Specification) (G H : Front) (r : Tables) → HasEntries G H → IsValid S G r → IsValid S H r
 unfolding first_fault
-thin_record S G H r h v = thin_behind S G H [] (lines_of r) h v
+thin_record S G H r h v = thin_behind S G H [] (rows_of r) h v

@@ -6,7 +6,7 @@ use Rattle.pts_ctx.specs.System.{Specification, axiom_of, rule_of}
 use Rattle.pts_ctx.specs.Front.{Front, find, entry_at}
 use Rattle.pts_record.specs.declared.shape.Form.{Form}
 use Rattle.pts_record.specs.declared.shape.Form.TheVariants.{Empty, Assume, Define, Bare as BareForm, SortAt, ConstAt, VarAt, Thin, PiAt, LamAt, AppAt, LetSort, LetAt, Conv, Same, Left, Right, CongApp, CongLam, CongPi}
-use Rattle.pts_record.specs.Said.{Line, Said, scope_of, subject_of, claim_of}
+use Rattle.pts_record.specs.Said.{Row, Said, scope_of, subject_of, claim_of}
 use Rattle.pts_rules.specs.declared.why.Why.{Why}
 use Rattle.pts_rules.specs.declared.why.Why.TheVariants.{Kind, Place, Subject, Claim, Premise, SortOf, NoAxiom, NoRule, NoEntry, NoStep}
 use Rattle.pts_rules.specs.Step.{head_step}
@@ -15,7 +15,7 @@ use Rattle.pts_record.specs.Said.{is_context, is_judgement, is_comparison}
 
 -- A line without printed names, and what its links say.
 abbrev pub Plain : Type 0
-Plain = Line (Unit {0})
+Plain = Row (Unit {0})
 
 abbrev pub Link : Type 0
 Link = Said (Unit {0})

@@ -4,7 +4,7 @@ use Rattle.pts_terms.specs.Tree.{Bare, same_term}
 use Rattle.pts_ctx.specs.System.{Specification}
 use Rattle.pts_ctx.specs.Front.{Global, Front, Locals}
 use Rattle.pts_record.specs.Table.{Tables}
-use Rattle.pts_record.specs.Said.{judgement, look, say, lines_of, told}
+use Rattle.pts_record.specs.Said.{judgement, look, say, rows_of, told}
 use Rattle.pts_rules.specs.declared.why.Why.{Why}
 use Rattle.pts_rules.specs.Parts.{sort_in}
 use Rattle.pts_rules.specs.Conditions.{Plain, Link, form_fault}
@@ -25,7 +25,7 @@ first_fault_behind S G ms (l ∷ ls) = or_later (length ms) (fault S G ms l) (fi
 
 -- The least node of a record that is no instance of its form, and its fault.
 unfoldable pub first_fault : Specification → Front → Tables → Option (ℕ × Why)
-first_fault S G r = first_fault_behind S G [] (lines_of r)
+first_fault S G r = first_fault_behind S G [] (rows_of r)
 
 -- A record is valid over a front if each node is an instance of its form.
 abbrev pub IsValid : Specification → Front → Tables → Type 0

@@ -1,18 +1,18 @@
 -- What the readers answer.
 use Rattle.std.specs.Prelude.{◌≡◌, Option, Some, None, Result, Ok, Err}
-use Rattle.pts_spec.specs.declared.fault.Misfit.{Misfit}
-use Rattle.pts_spec.specs.declared.fault.Misfit.TheVariants.{Shape, Memory}
+use Rattle.pts_spec.specs.declared.fault.KeyFault.{KeyFault}
+use Rattle.pts_spec.specs.declared.fault.KeyFault.TheVariants.{Shape, Memory}
 use Rattle.pts_spec.specs.declared.fault.SpecFault.{SpecFault}
 use Rattle.pts_spec.specs.declared.fault.SpecFault.TheVariants.{NotToml, Shape as Misshapen, System, Memory as NoMemory}
 
 -- A call answers what a value is read as, seen so, unless memory is wanting.
-abbrev pub FitsAs : {A B : Type 0} → (A → B) → Result A Misfit → Option B → Type 0
+abbrev pub FitsAs : {A B : Type 0} → (A → B) → Result A KeyFault → Option B → Type 0
 FitsAs seen (Ok a) said = said ≡ Some (seen a)
 FitsAs seen (Err Shape) said = said ≡ None
 FitsAs seen (Err Memory) said = Unit {0}
 
-abbrev pub Fits : {A : Type 0} → Result A Misfit → Option A → Type 0
-Fits result said = FitsAs (λ a. a) result said
+abbrev pub FitsShape : {A : Type 0} → Result A KeyFault → Option A → Type 0
+FitsShape result said = FitsAs (λ a. a) result said
 
 -- A call answers what is said, its value being seen so, unless memory is wanting.
 abbrev pub AnswersAs : {A B : Type 0} → (A → B) → Result A SpecFault → Result B SpecFault → Type 0

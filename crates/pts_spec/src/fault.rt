@@ -30,29 +30,29 @@ impl From<AllocError> for SpecFault {
 
 /// Why a value of a document is not read.
 #[derive(Debug, Drop)]
-pub(crate) enum Misfit {
+pub(crate) enum KeyFault {
     /// It has another shape than is asked for.
     Shape,
     /// There was no memory for what is read.
     Memory,
 }
 
-impl From<AllocError> for Misfit {
-    ghost use Rattle.pts_spec.specs.declared.fault.Misfit.{Misfit};
+impl From<AllocError> for KeyFault {
+    ghost use Rattle.pts_spec.specs.declared.fault.KeyFault.{KeyFault};
 
-    ghost from_gives = { λ _ misfit. misfit ≡ Misfit.Memory };
+    ghost from_gives = { λ _ misfit. misfit ≡ KeyFault.Memory };
 
-    fn from(_error: AllocError) -> Misfit {
-        Misfit::Memory
+    fn from(_error: AllocError) -> KeyFault {
+        KeyFault::Memory
     }
 }
 
-impl<T: Drop> From<AllocFailed<T>> for Misfit {
-    ghost use Rattle.pts_spec.specs.declared.fault.Misfit.{Misfit};
+impl<T: Drop> From<AllocFailed<T>> for KeyFault {
+    ghost use Rattle.pts_spec.specs.declared.fault.KeyFault.{KeyFault};
 
-    ghost from_gives = { λ _ misfit. misfit ≡ Misfit.Memory };
+    ghost from_gives = { λ _ misfit. misfit ≡ KeyFault.Memory };
 
-    fn from(_error: AllocFailed<T>) -> Misfit {
-        Misfit::Memory
+    fn from(_error: AllocFailed<T>) -> KeyFault {
+        KeyFault::Memory
     }
 }

@@ -12,7 +12,7 @@ ghost use Rattle.pts_spec.specs.Shapes as shapes;
 ghost use Rattle.pts_spec.specs.SpecFile.{spelled_in, least_other, UnlessMemory};
 ghost use Rattle.pts_spec.specs.SpecFile as file;
 
-use crate::fault::{Misfit, SpecFault};
+use crate::fault::{KeyFault, SpecFault};
 use crate::list::{Item, list_of};
 use pts_names::{SortName, Text};
 use std::alloc::Global;
@@ -20,7 +20,7 @@ use toml::{Table, Value};
 
 /// The lists that a document writes.
 #[derive(Drop)]
-pub(crate) struct Lists {
+pub(crate) struct KeyLists {
     pub(crate) sorts: Vec<SortName>,
     pub(crate) axioms: Vec<(SortName, SortName)>,
     pub(crate) rules: Vec<(SortName, SortName, SortName)>,
@@ -28,7 +28,7 @@ pub(crate) struct Lists {
 
 /// The lists at the three keys, where the document has no other key.
 #[tactic(auto, unfolding(crate::specs::SpecFile::spelled_in))]
-pub(crate) fn lists_in(alloc: Global, document: &Table) -> Result<Lists, SpecFault>
+pub(crate) fn lists_in(alloc: Global, document: &Table) -> Result<KeyLists, SpecFault>
     ensures lists { AnswersAs (λ lists. written lists.sorts.items lists.axioms.items lists.rules.items) result (spelled_in (table_view document.now)) }
     ensures memory { ¬ (result ≡ Err (SpecFault.System SystemFault.Memory)) }
 {
@@ -38,7 +38,7 @@ pub(crate) fn lists_in(alloc: Global, document: &Table) -> Result<Lists, SpecFau
     if let Some(key) = least_other(document) {
         return Err(misshapen(alloc, key));
     }
-    Ok(Lists {
+    Ok(KeyLists {
         sorts,
         axioms,
         rules,
@@ -55,8 +55,8 @@ fn list_at<T: Item>(alloc: Global, document: &Table, key: &str) -> Result<Vec<T>
     };
     match list_of(alloc, value) {
         Ok(list) => Ok(list),
-        Err(Misfit::Shape) => Err(misshapen(alloc, key)),
-        Err(Misfit::Memory) => Err(SpecFault::Memory),
+        Err(KeyFault::Shape) => Err(misshapen(alloc, key)),
+        Err(KeyFault::Memory) => Err(SpecFault::Memory),
     }
 }
 

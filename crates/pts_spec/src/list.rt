@@ -3,9 +3,9 @@ ghost use Rattle.toml.specs.Data.{Data};
 ghost use Rattle.toml.specs.View.{view};
 ghost use Rattle.pts_spec.specs.Shapes.{spelling_of, axiom_of, rule_of};
 ghost use Rattle.pts_spec.specs.Shapes as shapes;
-ghost use Rattle.pts_spec.specs.Calls.{Fits, FitsAs};
+ghost use Rattle.pts_spec.specs.Calls.{FitsShape, FitsAs};
 
-use crate::fault::Misfit;
+use crate::fault::KeyFault;
 use pts_names::{SortName, SortNameFault};
 use std::alloc::Global;
 use toml::Value;
@@ -15,24 +15,24 @@ pub(crate) trait Item: Drop {
     ghost item_of: { Data → Option Self };
 
     /// The item that a value is.
-    fn read(alloc: Global, value: &Value) -> Result<Self, Misfit>
+    fn read(alloc: Global, value: &Value) -> Result<Self, KeyFault>
     where
         Self: Sized,
-        ensures { Fits result (item_of (view value.now)) };
+        ensures { FitsShape result (item_of (view value.now)) };
 }
 
 /// A text that spells a sort.
 impl Item for SortName {
     ghost item_of = { spelling_of };
 
-    fn read(alloc: Global, value: &Value) -> Result<SortName, Misfit> {
+    fn read(alloc: Global, value: &Value) -> Result<SortName, KeyFault> {
         let Some(text) = value.as_str() else {
-            return Err(Misfit::Shape);
+            return Err(KeyFault::Shape);
         };
         match SortName::read(alloc, text) {
             Ok(spelling) => Ok(spelling),
-            Err(SortNameFault::BadSpelling) => Err(Misfit::Shape),
-            Err(SortNameFault::Memory) => Err(Misfit::Memory),
+            Err(SortNameFault::BadSpelling) => Err(KeyFault::Shape),
+            Err(SortNameFault::Memory) => Err(KeyFault::Memory),
         }
     }
 }
@@ -41,11 +41,11 @@ impl Item for SortName {
 impl Item for (SortName, SortName) {
     ghost item_of = { axiom_of };
 
-    fn read(alloc: Global, value: &Value) -> Result<(SortName, SortName), Misfit> {
+    fn read(alloc: Global, value: &Value) -> Result<(SortName, SortName), KeyFault> {
         let mut spellings = list_of::<SortName>(alloc, value)?.into_iter();
         match (spellings.next(), spellings.next(), spellings.next()) {
             (Some(left), Some(right), None) => Ok((left, right)),
-            _ => Err(Misfit::Shape),
+            _ => Err(KeyFault::Shape),
         }
     }
 }
@@ -54,7 +54,7 @@ impl Item for (SortName, SortName) {
 impl Item for (SortName, SortName, SortName) {
     ghost item_of = { rule_of };
 
-    fn read(alloc: Global, value: &Value) -> Result<(SortName, SortName, SortName), Misfit> {
+    fn read(alloc: Global, value: &Value) -> Result<(SortName, SortName, SortName), KeyFault> {
         let mut spellings = list_of::<SortName>(alloc, value)?.into_iter();
         match (
             spellings.next(),
@@ -67,17 +67,17 @@ impl Item for (SortName, SortName, SortName) {
                 let third = second.copy()?;
                 Ok((first, second, third))
             }
-            _ => Err(Misfit::Shape),
+            _ => Err(KeyFault::Shape),
         }
     }
 }
 
 /// The list of items that a value is.
-pub(crate) fn list_of<T: Item>(alloc: Global, list: &Value) -> Result<Vec<T>, Misfit>
+pub(crate) fn list_of<T: Item>(alloc: Global, list: &Value) -> Result<Vec<T>, KeyFault>
     ensures { FitsAs (λ items. items.items) result (shapes.list_of T.item_of (view list.now)) }
 {
     let Some(array) = list.as_array() else {
-        return Err(Misfit::Shape);
+        return Err(KeyFault::Shape);
     };
     let mut items = Vec::with_capacity(alloc, array.len())?;
     for value in array {

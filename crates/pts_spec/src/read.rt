@@ -8,7 +8,7 @@ ghost use Rattle.pts_spec.specs.SpecFile.{system_of, UnlessMemory};
 ghost use Rattle.pts_spec.specs.SpecFile as file;
 
 use crate::fault::SpecFault;
-use crate::keys::{Lists, lists_in};
+use crate::keys::{KeyLists, lists_in};
 use pts_ctx::{System, SystemFault};
 use std::alloc::Global;
 use toml::Table;
@@ -46,7 +46,7 @@ fn document_of(alloc: Global, bytes: &[u8]) -> Result<Table, SpecFault>
 }
 
 /// The system that lists are.
-fn system_with(alloc: Global, lists: Lists) -> Result<System, SpecFault>
+fn system_with(alloc: Global, lists: KeyLists) -> Result<System, SpecFault>
     ensures system { Answers result (file.system_with (written lists.sorts.items lists.axioms.items lists.rules.items)) }
     ensures memory { ¬ (result ≡ Err (SpecFault.System SystemFault.Memory)) }
 {

@@ -1,5 +1,5 @@
 use pts_io::{
-    Fail, MemorySink, MemorySource, ReadFault, Sink, Source, StdSink, StdSource, read_whole,
+    Fail, MemorySink, MemorySource, WholeFault, Sink, Source, StdSink, StdSource, read_whole,
     write_whole,
 };
 use std::alloc::{AllocError, Global};
@@ -11,7 +11,7 @@ fn words(alloc: Global) -> Result<MemorySource, AllocError> {
     Ok(MemorySource::new(bytes, 5, fail_at))
 }
 
-fn read(alloc: Global, source: &mut MemorySource, limit: usize) -> Result<Vec<u8>, ReadFault> {
+fn read(alloc: Global, source: &mut MemorySource, limit: usize) -> Result<Vec<u8>, WholeFault> {
     read_whole(alloc, source, limit)
 }
 
@@ -19,7 +19,7 @@ fn take(source: &mut MemorySource) -> Result<usize, Fail> {
     source.take(&mut [0; 2])
 }
 
-fn is_read(answer: &Result<Vec<u8>, ReadFault>, bytes: &[u8]) -> bool {
+fn is_read(answer: &Result<Vec<u8>, WholeFault>, bytes: &[u8]) -> bool {
     match answer {
         Ok(found) => found.as_slice() == bytes,
         Err(_) => false,
@@ -33,7 +33,7 @@ fn a_source_is_read_whole_up_to_the_limit(rt: HostRuntime) {
             assert!(rt; take(&mut source) == Ok(2));
             assert!(rt; take(&mut source) == Err(Fail::Failed));
             let refused = read(rt.alloc(), &mut source, 4);
-            assert!(rt; matches!(refused, Err(ReadFault::TooMuch)));
+            assert!(rt; matches!(refused, Err(WholeFault::TooMuch)));
             assert!(rt; is_read(&read(rt.alloc(), &mut source, 100), b" three"));
         }
         Err(_) => assert!(rt; false),

@@ -12,7 +12,7 @@ use Rattle.pts_io.specs.Files.{file_of}
 use Rattle.pts_io.proofs.Known.{append_known-nil}
 use Rattle.pts_spec.specs.declared.fault.SpecFault.{SpecFault}
 use Rattle.pts_spec.specs.SpecFile.{system_of}
-use Rattle.pts_batch.specs.Batches.{Answer, Answers}
+use Rattle.pts_batch.specs.Batches.{BatchAnswer, BatchAnswers}
 use Rattle.yarrow.specs.declared.system.Unready.{Unready}
 use Rattle.yarrow.specs.declared.system.Unready.TheVariants.{LibraryFailed, NoFile, TooLong, Refused, NoMemory}
 use Rattle.yarrow.specs.Runs.{Outside, PrintsPart}
@@ -40,14 +40,14 @@ pub untold_end : (name : List ℕ) (why : Unready) (o : Outside) (st : ℕ) → 
 untold_end name why o st = silent_end (UnreadyPrints name why) o st no_memory_to_tell
 
 -- the lines of an answer
-moved : (a : Answer) (s r : ℕ) (t u : List ℕ) → s ≡ r → t ≡ u → AnswerPrints a s t → AnswerPrints a r u
+moved : (a : BatchAnswer) (s r : ℕ) (t u : List ℕ) → s ≡ r → t ≡ u → AnswerPrints a s t → AnswerPrints a r u
 moved a s r t u e f p = subst (λ k. AnswerPrints a k u) e (subst (AnswerPrints a s) f p)
 
-all_lines : (a : Answer) → AnswerPrints a 7 (text_of a.lines)
+all_lines : (a : BatchAnswer) → AnswerPrints a 7 (text_of a.lines)
 all_lines a = moved a 7 7 (text_of (take (length a.lines) a.lines)) (text_of a.lines) refl (ap text_of (take_all (length a.lines) a.lines (omega arith))) (no_memory (length a.lines))
 
 -- The lines that were printed are those of the answer.
-module _ (a : Answer) (o : Outside) (st : ℕ) (lines : List (List ℕ)) (same : lines ≡ a.lines) where
+module _ (a : BatchAnswer) (o : Outside) (st : ℕ) (lines : List (List ℕ)) (same : lines ≡ a.lines) where
   pub lines_failed : st ≡ 5 → Rose o.write_faults o.write_faults_after × PrintsPart o (text_of lines) → Writes (AnswerPrints a) o st
   lines_failed e f = inr (e, f.0, (7, text_of a.lines, all_lines a, subst (λ ls. PrintsPart o (text_of ls)) same f.1))
 
@@ -76,7 +76,7 @@ module _ (a : Answer) (o : Outside) (st : ℕ) (lines : List (List ℕ)) (same :
       writes_behind (AnswerPrints a) o mid faults st 0 (text_of a.lines) line (subst (λ ls. mid ≡ append_known o.written (text_of ls)) same f.0) f.1 (moved a (answer_status a) 0 (answer_text a) (text_of a.lines ++ line) s t whole) w
 
 -- the answer to a module
-pub module_answered : (S : Specification) (M bytes : List ℕ) (o : Outside) (st : ℕ) (a : Answer) (units : ℕ) (G : List (Global Name)) → Answers S M bytes 1000000 a units → G ≡ a.entries → Writes (AnswerPrints a) o st → Writes (λ s t. ModulePrints S M bytes s t G) o st
+pub module_answered : (S : Specification) (M bytes : List ℕ) (o : Outside) (st : ℕ) (a : BatchAnswer) (units : ℕ) (G : List (Global Name)) → BatchAnswers S M bytes 1000000 a units → G ≡ a.entries → Writes (AnswerPrints a) o st → Writes (λ s t. ModulePrints S M bytes s t G) o st
 module_answered S M bytes o st a units G is g w =
     subst (λ H. Writes (λ s t. ModulePrints S M bytes s t H) o st) (sym g)
     (writes_map (AnswerPrints a) (λ s t. ModulePrints S M bytes s t a.entries) o st (λ s t p. answered a units is p) w)

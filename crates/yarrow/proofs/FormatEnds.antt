@@ -8,7 +8,7 @@ use Rattle.pts_io.specs.Counts.{raised, Rose}
 use Rattle.pts_io.proofs.Known.{append_known-nil, append_known-append}
 use Rattle.pts_format.specs.declared.ended.Ended.{Ended}
 use Rattle.pts_format.specs.declared.ended.Ended.TheVariants.{Whole, ReadFailed, TooMuch, WriteFailed, NoMemory}
-use Rattle.pts_format.specs.Ends.{IsCount, Shows, Answers}
+use Rattle.pts_format.specs.Ends.{IsCount, Shows, EndAnswers}
 use Rattle.yarrow.specs.declared.system.Unready.{Unready}
 use Rattle.yarrow.specs.declared.system.Unready.TheVariants as unready
 use Rattle.yarrow.specs.Runs.{Outside}
@@ -18,7 +18,7 @@ use Rattle.yarrow.specs.Formats.{Takes, LinesPrint, answered, read_failed, too_l
 -- What the lines came to, where the sink then has `mid`.
 abbrev pub Reported : (sorts : List (List ℕ)) → Outside → (mid : Option (List ℕ)) → Ended → Type 0
 Reported sorts o mid e =
-    (n : ℕ) × (o.given_after ≡ raised o.given n) × IsCount 16777216 e n × ((out : List ℕ) × Shows e o.written mid out × IfSome o.left (λ bytes. Answers sorts 16777216 e n bytes out))
+    (n : ℕ) × (o.given_after ≡ raised o.given n) × IsCount 16777216 e n × ((out : List ℕ) × Shows e o.written mid out × IfSome o.left (λ bytes. EndAnswers sorts 16777216 e n bytes out))
 
 -- A line was printed behind `mid`, with the wanted status, or could not be.
 abbrev pub PrintedBehind : Outside → (mid : Option (List ℕ)) → (faults : ℕ) → (status wanted : ℕ) → List ℕ → Type 0

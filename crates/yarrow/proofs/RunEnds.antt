@@ -12,7 +12,7 @@ use Rattle.pts_certificate.specs.Certificate.{Written, certificate_of}
 use Rattle.yarrow.specs.declared.enter.Refusal.{Refusal}
 use Rattle.yarrow.specs.Enter.{enter_all}
 use Rattle.yarrow.specs.Answers.{answer_to, answer_read, answer_by, IsLegalBy}
-use Rattle.yarrow.specs.Runs.{Outside, Prints, PrintsPart, IsLine, IsCheckStatus, IsCheckRun, IsUsageRun}
+use Rattle.yarrow.specs.Runs.{Outside, Prints, PrintsPart, IsPrintedLine, IsCheckStatus, IsCheckRun, IsUsageRun}
 use Rattle.yarrow.proofs.LegalEnd.{answer_legal, some_legal, none_legal, none_chosen}
 
 -- The line was printed with the wanted status, or could not be.
@@ -41,7 +41,7 @@ Legally G = (S : Specification) × Legal S (bare_front G)
 abbrev Chosen : Outside → List (Global Name) → Type 0
 Chosen o G = IfSome o.left (λ text. IsLegalBy (certificate_of text) G)
 
-five_run : (o : Outside) (st : ℕ) (G : List (Global Name)) (line : List ℕ) → st ≡ 5 → Rose o.write_faults o.write_faults_after → IsLine o line → PrintsPart o line → Legally G → Chosen o G → IsCheckRun o st G
+five_run : (o : Outside) (st : ℕ) (G : List (Global Name)) (line : List ℕ) → st ≡ 5 → Rose o.write_faults o.write_faults_after → IsPrintedLine o line → PrintsPart o line → Legally G → Chosen o G → IsCheckRun o st G
 five_run o st G line e rose is part l ch = record {
   answered = λ h. absurd (not_answer st 5 (omega arith) e h);
   whole = λ h. absurd (not_answer st 5 (omega arith) e h);

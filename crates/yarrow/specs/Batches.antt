@@ -8,7 +8,7 @@ use Rattle.pts_rules.specs.Derives.{Legal}
 use Rattle.pts_io.specs.Files.{file_of}
 use Rattle.pts_spec.specs.declared.fault.SpecFault.{SpecFault}
 use Rattle.pts_spec.specs.SpecFile.{system_of}
-use Rattle.pts_batch.specs.Batches.{Answer, Answers}
+use Rattle.pts_batch.specs.Batches.{BatchAnswer, BatchAnswers}
 use Rattle.yarrow.specs.declared.system.Unready.{Unready}
 use Rattle.yarrow.specs.declared.system.Unready.TheVariants.{Refused}
 use Rattle.yarrow.specs.Runs.{Outside}
@@ -28,21 +28,21 @@ text_of (line ∷ lines) = (line ++ codes "\n") ++ text_of lines
 abbrev pub done_line : ℕ → List ℕ
 done_line n = codes "done " ++ (decimal n ++ codes "\n")
 
-abbrev pub answer_text : Answer → List ℕ
+abbrev pub answer_text : BatchAnswer → List ℕ
 answer_text a = text_of a.lines ++ (if a.refused then [] else done_line (length a.entries))
 
-abbrev pub answer_status : Answer → ℕ
+abbrev pub answer_status : BatchAnswer → ℕ
 answer_status a = if a.refused then 1 else 0
 
 -- The status and the text of an answer: that of a refusal is 1. For want of memory some of its first lines may be all.
-pub data AnswerPrints (a : Answer) : (status : ℕ) → (text : List ℕ) → Type 0 where
+pub data AnswerPrints (a : BatchAnswer) : (status : ℕ) → (text : List ℕ) → Type 0 where
   whole : AnswerPrints a (answer_status a) (answer_text a)
   no_memory : (n : ℕ) → AnswerPrints a 7 (text_of (take n a.lines))
 
 -- The status, the text and the entries for the bytes of the module M in a system: the answer on a budget of 1,000,000 units;
 -- or there was no memory for one.
 pub data ModulePrints (S : Specification) (M bytes : List ℕ) : (status : ℕ) → (out : List ℕ) → (entries : List (Global Name)) → Type 0 where
-  answered : {status : ℕ} {out : List ℕ} (a : Answer) (units : ℕ) → Answers S M bytes 1000000 a units → AnswerPrints a status out → ModulePrints S M bytes status out a.entries
+  answered : {status : ℕ} {out : List ℕ} (a : BatchAnswer) (units : ℕ) → BatchAnswers S M bytes 1000000 a units → AnswerPrints a status out → ModulePrints S M bytes status out a.entries
   no_answer : ModulePrints S M bytes 7 [] []
 
 -- The status and the text where a file, or the system that it specifies, is not there.

@@ -39,8 +39,8 @@ abbrev pub PrintsPart : Outside → List ℕ → Type 0
 PrintsPart o line = (n : ℕ) × (n ≤ length line) × (o.written_after ≡ append_known o.written (take n line))
 
 -- A line that a run may print: that of a failed read, that of too long an input, or the answer.
-abbrev pub IsLine : Outside → List ℕ → Type 0
-IsLine o line = (line ≡ codes "read failed\n") ⊎ ((line ≡ codes "input too long\n") ⊎ IfSome o.left (λ text. line ≡ (answer_to text).line))
+abbrev pub IsPrintedLine : Outside → List ℕ → Type 0
+IsPrintedLine o line = (line ≡ codes "read failed\n") ⊎ ((line ≡ codes "input too long\n") ⊎ IfSome o.left (λ text. line ≡ (answer_to text).line))
 
 -- No fault was counted.
 abbrev pub IsQuiet : Outside → Type 0
@@ -58,7 +58,7 @@ pub record IsCheckRun (o : Outside) (status : ℕ) (entries : List (Global Name)
   pub quiet : (status ≡ 0) ⊎ (status ≡ 1) → IsQuiet o
   -- 4 comes only where the source's count of faults rose, 5 only where the sink's did
   pub read_failed : status ≡ 4 → Rose o.read_faults o.read_faults_after × Prints o (codes "read failed\n")
-  pub write_failed : status ≡ 5 → Rose o.write_faults o.write_faults_after × ((line : List ℕ) × IsLine o line × PrintsPart o line)
+  pub write_failed : status ≡ 5 → Rose o.write_faults o.write_faults_after × ((line : List ℕ) × IsPrintedLine o line × PrintsPart o line)
   -- after want of memory nothing was printed
   pub no_memory : status ≡ 7 → o.written_after ≡ o.written
   -- 8 comes only where byte 16,777,217 was taken, and no fault was counted

@@ -5,7 +5,7 @@ ghost use Rattle.std.specs.Io.KnownBytes.{append_known};
 ghost use Rattle.pts_ctx.specs.Front.{bare_front};
 ghost use Rattle.pts_rules.specs.Derives.{Legal};
 ghost use Rattle.pts_spec.specs.SpecFile.{system_of};
-ghost use Rattle.pts_batch.specs.Batches.{Answers};
+ghost use Rattle.pts_batch.specs.Batches.{BatchAnswers};
 ghost use Rattle.pts_batch.specs.Shown.{answer_seen};
 ghost use Rattle.pts_io.specs.Counts.{Rose};
 ghost use Rattle.yarrow.specs.Commands.{is_module};
@@ -117,7 +117,7 @@ fn answer_module(
     bytes: &[u8],
 ) -> Result<Batch, AllocError>
     requires named { is_module name.now ≡ true }
-    ensures answer { IfOk result (λ r. Answers system name.now bytes.now 1000000 (answer_seen r) r.units) }
+    ensures answer { IfOk result (λ r. BatchAnswers system name.now bytes.now 1000000 (answer_seen r) r.units) }
     ensures legal { IfOk result (λ r. Legal system (bare_front r.context.entries)) }
 {
     let name = module_name(alloc, name)?;

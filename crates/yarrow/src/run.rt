@@ -12,7 +12,7 @@ use crate::batch::run_batch;
 use crate::command::{Command, command_of};
 use crate::format::run_format;
 use pts_ctx::Context;
-use pts_io::{Library, ReadFault, Sink, Source, read_whole, write_whole};
+use pts_io::{Library, WholeFault, Sink, Source, read_whole, write_whole};
 use pts_names::List;
 use std::alloc::Global;
 
@@ -56,11 +56,11 @@ pub fn run_check<S: Source, K: Sink>(alloc: Global, source: &mut S, sink: &mut K
     ensures order { result.order ≡ [] }
 {
     match read_whole(alloc, source, LIMIT) {
-        Err(ReadFault::Failed) => { printed(alloc, sink, 4, b"read failed\n", Context::new(alloc)) }
-        Err(ReadFault::TooMuch) => {
+        Err(WholeFault::Failed) => { printed(alloc, sink, 4, b"read failed\n", Context::new(alloc)) }
+        Err(WholeFault::TooMuch) => {
             printed(alloc, sink, 8, b"input too long\n", Context::new(alloc))
         }
-        Err(ReadFault::Memory) => without_memory(alloc),
+        Err(WholeFault::Memory) => without_memory(alloc),
         Ok(bytes) => match answer_to(alloc, bytes.as_slice()) {
             Err(_) => without_memory(alloc),
             Ok(answer) => {

@@ -2,7 +2,7 @@ use Rattle.std.proofs.Common.{◌≡◌, ◌≤◌, ℕ, [], ◌∷◌, length, 
 use Rattle.std.specs.Vec.Iter.{into_iter_items, into_iter_len}
 use Rattle.pts_rules.specs.Meter.{left}
 use Rattle.pts_reduce.specs.Given.{Later}
-use Rattle.pts_batch.specs.Evidence.{entries_of, MayFollow, numbered, AllDeclarable}
+use Rattle.pts_batch.specs.Evidence.{declared_entries, MayFollow, numbered, AllDeclarable}
 use Rattle.pts_batch.specs.Loading.{Loaded, Loads}
 use Rattle.pts_batch.proofs.loading.load.Given as goal
 
@@ -11,7 +11,7 @@ invariant-loop-line l = record {
   behind : (o : Loaded) (k : ℕ) → Loads l.system l.label l.loading.context.entries (map numbered (into_iter_items l.rest)) (left l.meter) o k → Loads l.system l.label [] (map numbered l.fn.lines.items) (left l.fn.meter) o k;
   names : AllDeclarable (into_iter_items l.rest);
   labels : l.loading.context.labels ≡ (l.label, 0) ∷ [];
-  entries : l.loading.context.entries ≡ entries_of l.loading.declarations.items;
+  entries : l.loading.context.entries ≡ declared_entries l.loading.declarations.items;
   evidence : MayFollow l.system [] l.loading.declarations.items;
   long : into_iter_len l.rest ≡ length (into_iter_items l.rest);
   room : length (into_iter_items l.rest) ≤ l.loading.context.spare_entries;

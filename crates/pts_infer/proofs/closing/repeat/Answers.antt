@@ -1,6 +1,6 @@
 use Rattle.std.proofs.Common.{refl}
 use Rattle.pts_record.specs.Table.{bare_at, named_trees}
-use Rattle.pts_record.specs.Said.{named_told, line_of}
+use Rattle.pts_record.specs.Said.{named_told, row_of_node}
 use Rattle.pts_grow.proofs.Grow.{node_keeps, node_says, node_valid, same_keeps}
 use Rattle.pts_grow.proofs.Judgements.{new_judges}
 use Rattle.pts_grow.proofs.Converted.{thin_ok, itself_told, unlifted}
@@ -24,7 +24,7 @@ returns-in-Ok-clause-valid c = λ S G v.
     let r = c.args.proof.now in
     let j = c.args.judged in
     let n = c.node.result in
-    let d = itself_told (named_told r c.args.ctx) n.form c.args.ctx (line_of (named_trees r.shapes) n) (named_told r n.ctx) (named_told r n.first) c.node.ensures.named c.requires.typed.0 in
+    let d = itself_told (named_told r c.args.ctx) n.form c.args.ctx (row_of_node (named_trees r.shapes) n) (named_told r n.ctx) (named_told r n.first) c.node.ensures.named c.requires.typed.0 in
     node_valid r c.add_node.new.self (thin_of c.args.ctx j) S G c.in-Ok.ensures.added (thin_ok r c.args.ctx c.requires.typed S G j.subject j.claim c.args.ctx j 0 c.requires.judged d (unlifted (bare_at r.shapes j.subject) (bare_at r.shapes j.subject) refl) (unlifted (bare_at r.shapes j.claim) (bare_at r.shapes j.claim) refl)) v
 
 pub returns-in-Err-clause-keeps : goal.returns-in-Err-clause-keeps

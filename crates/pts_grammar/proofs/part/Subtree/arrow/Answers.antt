@@ -1,5 +1,5 @@
 use Rattle.pts_grammar.proofs.Underscore.{only_memory}
-use Rattle.pts_grammar.proofs.part.Part.arrow.Goals as goal
+use Rattle.pts_grammar.proofs.part.Subtree.arrow.Goals as goal
 
 pub unreachable-requires : goal.unreachable-requires
 unreachable-requires c = only_memory c.in-Err.fault c.in_default.not-Memory c.in-Err.ensures.refused
