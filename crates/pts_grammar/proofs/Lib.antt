@@ -5,6 +5,7 @@ pub mod Carried
 pub mod Complete
 pub mod Sound
 pub mod Reach
+pub mod Stays
 pub mod Refusals
 pub mod TooDeep
 pub mod Answer

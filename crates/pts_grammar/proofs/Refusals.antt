@@ -13,6 +13,7 @@ use Rattle.pts_grammar.specs.Grammar.{Reads}
 use Rattle.pts_grammar.specs.Machine.{syntax, in_parens, at_type, at_body, let_value, let_type, let_body, behind_arrow, State, begin, binder, binder_sign, let_name, let_sign, after, Move, go, stay, fail, deep, ParseOutcome, read, expected, too_deep, applied_to, closing, if_plain, step, whole, at_end, run}
 use Rattle.pts_grammar.specs.Refusals.{Viable, CanFollow, Wants, a_colon, a_dot, an_assign, an_in, a_close, the_end, a_name, a_term, Refused, at_token, at_length}
 use Rattle.pts_grammar.proofs.Complete.{Frames, follow, plain_goes, Agrees, exactly, cut_off}
+use Rattle.pts_grammar.proofs.Stays.{plain_stays, end_rest}
 use Rattle.pts_grammar.proofs.Sound.{always, machine_sound, read_always}
 use Rattle.pts_grammar.proofs.Reach.{bound_cuts, reach, reach_run, reach_more, letter, finish_state, finishes}
 use Rattle.pts_grammar.proofs.Underscore.{underscore_is_identifier}
@@ -210,13 +211,6 @@ closing_whole (let_value x ∷ K) f t U h = absurd (cc h)
 closing_whole (let_type x d ∷ K) f In U h = absurd (cc h)
 closing_whole (let_type x d ∷ K) f t U h = absurd (cc h)
 
-plain_stays : (x : Text) (S : State Syntax) (U : Syntax) → ¬ (if_plain syntax x S ≡ stay U)
-plain_stays x S U = cases (is_identifier x)
-  where
-    cases : (b : Bool) → ¬ (cond b (go S) (fail kind.Name) ≡ stay U)
-    cases true h = cc h
-    cases false h = cc h
-
 step_whole : (R : State Syntax) (p : ℕ) (t : Token) (U : Syntax) → step syntax always R (p, t) ≡ stay U → at_end syntax 0 R ≡ read U []
 step_whole (begin K) p Lambda U h = absurd (cc h)
 step_whole (begin K) p At U h = absurd (cc h)
@@ -238,24 +232,6 @@ step_whole (after K f) p (Word x) U h = absurd (cc h)
 step_whole (after K f) p Open U h = absurd (cc h)
 step_whole (after K f) p Arrow U h = absurd (cc h)
 step_whole (after K f) p t U h = closing_whole K f t U h
-
-whole_rest : (length : ℕ) (K : Frames) (f U : Syntax) (x : Spot) (rest : List Spot) → ¬ (whole syntax length K f ≡ read U (x ∷ rest))
-whole_rest length [] f U x rest h = let m : [] ≡ x ∷ rest = cc h in cc m
-whole_rest length (at_body b y A ∷ K) f U x rest h = whole_rest length K _ U x rest h
-whole_rest length (let_body y d A ∷ K) f U x rest h = whole_rest length K _ U x rest h
-whole_rest length (behind_arrow A ∷ K) f U x rest h = whole_rest length K _ U x rest h
-whole_rest length (in_parens g ∷ K) f U x rest h = cc h
-whole_rest length (at_type b y ∷ K) f U x rest h = cc h
-whole_rest length (let_value y ∷ K) f U x rest h = cc h
-whole_rest length (let_type y d ∷ K) f U x rest h = cc h
-
-end_rest : (length : ℕ) (R : State Syntax) (U : Syntax) (x : Spot) (rest : List Spot) → ¬ (at_end syntax length R ≡ read U (x ∷ rest))
-end_rest length (begin K) U x rest h = cc h
-end_rest length (binder b K) U x rest h = cc h
-end_rest length (binder_sign b y K) U x rest h = cc h
-end_rest length (let_name K) U x rest h = cc h
-end_rest length (let_sign y K) U x rest h = cc h
-end_rest length (after K f) U x rest h = whole_rest length K f U x rest h
 
 more_move : (length p : ℕ) (t : Token) (U : Syntax) (ts vs us rest : List Spot) (q : ℕ) (u : Token) (R : State Syntax) → reach (begin []) vs ≡ Some R → ts ≡ vs ++ (q, u) ∷ us → (m : Move Syntax) → step syntax always R (q, u) ≡ m → follow always length m (q, u) us ≡ read U ((p, t) ∷ rest) → ((Q : State Syntax) → reach (begin []) (vs ++ (q, u) ∷ []) ≡ Some Q → run syntax always length Q us ≡ read U ((p, t) ∷ rest) → Refused length ts kind.End p) → Refused length ts kind.End p
 unfolding follow

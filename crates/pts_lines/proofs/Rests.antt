@@ -7,16 +7,10 @@ use Rattle.pts_tokens.specs.Tokens.{Spot}
 use Rattle.pts_grammar.specs.declared.kind.Kind.TheVariants as kind
 use Rattle.pts_grammar.specs.Syntax.{Syntax}
 use Rattle.pts_grammar.specs.Machine.{syntax, in_parens, at_type, at_body, let_value, let_type, let_body, behind_arrow, State, begin, binder, binder_sign, let_name, let_sign, after, Move, go, stay, fail, deep, read, if_plain, opening, step, whole, at_end, run}
+use Rattle.pts_grammar.proofs.Stays.{plain_stays, end_rest}
 use Rattle.pts_grammar.proofs.Complete.{Frames, follow, Ends, continues, opening_is}
 
 module _ (more : ℕ → Bool) where
-  plain_stays : (x : Text) (S : State Syntax) (U : Syntax) → ¬ (if_plain syntax x S ≡ stay U)
-  plain_stays x S U = cases (is_identifier x)
-    where
-      cases : (b : Bool) → ¬ (cond b (go S) (fail kind.Name) ≡ stay U)
-      cases true h = cc h
-      cases false h = cc h
-
   open_stays : (f : Option Syntax) (K : Frames) (U : Syntax) → ¬ (opening syntax more f K ≡ stay U)
   open_stays f K U h = by (opening_is more f K)
     where
@@ -46,24 +40,6 @@ module _ (more : ℕ → Bool) where
   step_stays (after K f) p Open U h = absurd (open_stays (Some f) K U h)
   step_stays (after K f) p Arrow U h = absurd (cc h)
   step_stays (after K f) p t U h = refl
-
-  whole_rest : (length : ℕ) (K : Frames) (f U : Syntax) (x : Spot) (rest : List Spot) → ¬ (whole syntax length K f ≡ read U (x ∷ rest))
-  whole_rest length [] f U x rest h = let m : [] ≡ x ∷ rest = cc h in cc m
-  whole_rest length (at_body b y A ∷ K) f U x rest h = whole_rest length K _ U x rest h
-  whole_rest length (let_body y d A ∷ K) f U x rest h = whole_rest length K _ U x rest h
-  whole_rest length (behind_arrow A ∷ K) f U x rest h = whole_rest length K _ U x rest h
-  whole_rest length (in_parens g ∷ K) f U x rest h = cc h
-  whole_rest length (at_type b y ∷ K) f U x rest h = cc h
-  whole_rest length (let_value y ∷ K) f U x rest h = cc h
-  whole_rest length (let_type y d ∷ K) f U x rest h = cc h
-
-  end_rest : (length : ℕ) (R : State Syntax) (U : Syntax) (x : Spot) (rest : List Spot) → ¬ (at_end syntax length R ≡ read U (x ∷ rest))
-  end_rest length (begin K) U x rest h = cc h
-  end_rest length (binder b K) U x rest h = cc h
-  end_rest length (binder_sign b y K) U x rest h = cc h
-  end_rest length (let_name K) U x rest h = cc h
-  end_rest length (let_sign y K) U x rest h = cc h
-  end_rest length (after K f) U x rest h = whole_rest length K f U x rest h
 
   module _ (length : ℕ) (T : Syntax) (x : Spot) (rest : List Spot) where
     move_stays : (m : Move Syntax) (S : State Syntax) (t : Spot) (us : List Spot) → step syntax more S t ≡ m → ((R : State Syntax) → run syntax more length R us ≡ read T (x ∷ rest) → continues x.1 ≡ false) → follow more length m t us ≡ read T (x ∷ rest) → continues x.1 ≡ false

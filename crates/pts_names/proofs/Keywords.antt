@@ -18,19 +18,19 @@ same_characters text word utf8 bytes characters =
     (λ e. sym (encodes-chars text utf8) ∙ ap encodes (tests.0 e) ∙ bytes, λ e. tests.1 (ap chars e ∙ characters))
     (bytes_eq-Decides text word)
 
-let_characters : chars (codes "let") ≡ codes "let"
+pub let_characters : chars (codes "let") ≡ codes "let"
 unfolding chars
 let_characters = refl
 
-in_characters : chars (codes "in") ≡ codes "in"
+pub in_characters : chars (codes "in") ≡ codes "in"
 unfolding chars
 in_characters = refl
 
-let_bytes : encodes (codes "let") ≡ codes "let"
+pub let_bytes : encodes (codes "let") ≡ codes "let"
 unfolding encode
 let_bytes = refl
 
-in_bytes : encodes (codes "in") ≡ codes "in"
+pub in_bytes : encodes (codes "in") ≡ codes "in"
 unfolding encode
 in_bytes = refl
 

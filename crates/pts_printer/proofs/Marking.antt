@@ -5,9 +5,9 @@ use Rattle.std.specs.Prelude.{slice_set, nat_lt, if◌then◌else◌}
 use mathlib.Core.Path.{ap₂}
 use Rattle.pts_terms.specs.Tree.{Named, sort, const, var, app, named_lam, named_pi, named_let}
 use Rattle.pts_printed.specs.Choice.{occurs, occurring}
-use Rattle.pts_printer.specs.Marks.{mark_at, marked, first_mark, noted, picked}
+use Rattle.pts_printer.specs.Marks.{mark_at, marked, noted, picked}
 use Rattle.pts_terms.specs.Limits.{IndicesBelow}
-use Rattle.pts_printer.specs.Calls.{without_first}
+use Rattle.pts_printer.specs.Calls.{first_or_false, without_first}
 use Rattle.pts_printer.proofs.Beyond.{none_beyond}
 
 -- Marks with those added that occur in a term; the first mark is that of the variable of index k.
@@ -176,8 +176,8 @@ noted_is ms (named_let x d A b) =
     ∙ (noted_is (ored 0 (ored 1 ms b) A) d ∙ sym (ored_let 0 ms x d A b)))
 
 -- The mark of a binder is whether its variable occurs in its body.
-pub first_noted : (ms : List Bool) (b : Named) → first_mark (noted (false ∷ ms) b) ≡ occurs 0 b
-first_noted ms b = ap first_mark (noted_is (false ∷ ms) b)
+pub first_noted : (ms : List Bool) (b : Named) → first_or_false (noted (false ∷ ms) b) ≡ occurs 0 b
+first_noted ms b = ap first_or_false (noted_is (false ∷ ms) b)
 
 -- Marks that are made on the way are those of the variables that occur.
 pub marked_is : (k : ℕ) (ms : List Bool) (t : Named) → marked k ms t ≡ ored k ms t

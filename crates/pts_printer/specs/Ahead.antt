@@ -2,12 +2,7 @@
 use Rattle.std.specs.Prelude.{List, [], ◌∷◌, Bool, false, ◌≡◌}
 use Rattle.pts_terms.specs.Tree.{Named, sort, const, var, app, named_lam, named_pi, named_let}
 use Rattle.pts_printed.specs.Choice.{occurs}
-use Rattle.pts_printer.specs.Calls.{without_first}
-
--- What a list says of the next binder.
-abbrev pub first_use : List Bool → Bool
-first_use [] = false
-first_use (u ∷ us) = u
+use Rattle.pts_printer.specs.Calls.{first_or_false, without_first}
 
 -- What is left of a list behind a term.
 abbrev pub behind : Named → List Bool → List Bool
@@ -25,6 +20,6 @@ IsTold (sort s) us = Unit {0}
 IsTold (const c) us = Unit {0}
 IsTold (var i) us = Unit {0}
 IsTold (app f a) us = IsTold f us × IsTold a (behind f us)
-IsTold (named_lam x A b) us = (first_use us ≡ occurs 0 b) × IsTold A (without_first us) × IsTold b (behind A (without_first us))
-IsTold (named_pi x A b) us = (first_use us ≡ occurs 0 b) × IsTold A (without_first us) × IsTold b (behind A (without_first us))
-IsTold (named_let x d A b) us = (first_use us ≡ occurs 0 b) × IsTold d (without_first us) × IsTold A (behind d (without_first us)) × IsTold b (behind A (behind d (without_first us)))
+IsTold (named_lam x A b) us = (first_or_false us ≡ occurs 0 b) × IsTold A (without_first us) × IsTold b (behind A (without_first us))
+IsTold (named_pi x A b) us = (first_or_false us ≡ occurs 0 b) × IsTold A (without_first us) × IsTold b (behind A (without_first us))
+IsTold (named_let x d A b) us = (first_or_false us ≡ occurs 0 b) × IsTold d (without_first us) × IsTold A (behind d (without_first us)) × IsTold b (behind A (behind d (without_first us)))

@@ -1,9 +1,13 @@
 -- What parts of the printer do.
-use Rattle.std.specs.Prelude.{ℕ, List, [], ◌∷◌, ◌++◌, map}
+use Rattle.std.specs.Prelude.{ℕ, List, [], ◌∷◌, ◌++◌, Bool, false, map}
 use Rattle.std.specs.Borrow.{Bor}
 use Rattle.pts_names.specs.Name.{Name}
 
--- What is behind the first.
+-- The first flag of a list, and what is left without it.
+abbrev pub first_or_false : List Bool → Bool
+first_or_false [] = false
+first_or_false (b ∷ bs) = b
+
 abbrev pub without_first : {A : Type 0} → List A → List A
 without_first [] = []
 without_first (x ∷ L) = L

@@ -18,11 +18,6 @@ marked k ms (named_lam x A b) = marked (suc k) (marked k ms A) b
 marked k ms (named_pi x A b) = marked (suc k) (marked k ms A) b
 marked k ms (named_let x d A b) = marked (suc k) (marked k (marked k ms d) A) b
 
--- The first mark, where there is one.
-abbrev pub first_mark : List Bool → Bool
-first_mark [] = false
-first_mark (m ∷ ms) = m
-
 -- The same where the parts of a term are gone through from the last to the first, and each binder around a body has its mark
 -- before the others. The first mark is that of the variable of index 0.
 abbrev pub noted : List Bool → Named → List Bool

@@ -3,8 +3,8 @@
 ghost use Rattle.std.specs.Prelude.{◌≡◌, ◌∷◌, false, IfOk, OnOk};
 ghost use Rattle.pts_terms.specs.Seen.{named};
 ghost use Rattle.pts_printed.specs.Choice.{occurs};
-ghost use Rattle.pts_printer.specs.Ahead.{first_use, behind, IsTold};
-ghost use Rattle.pts_printer.specs.Calls.{without_first};
+ghost use Rattle.pts_printer.specs.Ahead.{behind, IsTold};
+ghost use Rattle.pts_printer.specs.Calls.{first_or_false, without_first};
 ghost use Rattle.pts_printer.specs.Marks.{noted};
 
 use crate::marks::Marks;
@@ -41,7 +41,7 @@ impl Ahead {
     /// Whether the variable of the next binder occurs, which is then behind.
     #[tactic(auto, using(crate::proofs::Names::reverse_more))]
     pub(crate) fn next(&mut self) -> bool
-        ensures used { result ≡ first_use self.old }
+        ensures used { result ≡ first_or_false self.old }
         ensures others { self.new ≡ without_first self.old }
     {
         match self.uses.pop() {
@@ -77,12 +77,12 @@ fn add_uses(term: &Term, around: &mut Marks, ahead: &mut Ahead) -> Result<(), Al
             add_uses(f.get(), around, ahead)
         }
         Term::Lam(_, t, b) | Term::Pi(_, t, b) => {
-            let used = is_used(b, around, ahead)?;
+            let used = body_uses(b, around, ahead)?;
             add_uses(t.get(), around, ahead)?;
             ahead.add(used)
         }
         Term::Let(_, d, t, b) => {
-            let used = is_used(b, around, ahead)?;
+            let used = body_uses(b, around, ahead)?;
             add_uses(t.get(), around, ahead)?;
             add_uses(d.get(), around, ahead)?;
             ahead.add(used)
@@ -93,7 +93,7 @@ fn add_uses(term: &Term, around: &mut Marks, ahead: &mut Ahead) -> Result<(), Al
 // The same for the body of a binder. Says whether its variable occurs.
 #[cycle(uses)]
 #[tactic(auto, using(crate::proofs::Marking::first_noted))]
-fn is_used(body: &Boxed<Term>, around: &mut Marks, ahead: &mut Ahead) -> Result<bool, AllocError>
+fn body_uses(body: &Boxed<Term>, around: &mut Marks, ahead: &mut Ahead) -> Result<bool, AllocError>
     ensures used { IfOk result (λ used. used ≡ occurs 0 (named body.now)) }
     ensures marks { OnOk result (around.new ≡ without_first (noted (false ∷ around.old) (named body.now))) }
     ensures told { OnOk result (IsTold (named body.now) ahead.new) }

@@ -55,7 +55,7 @@ pub(crate) fn product_name(
 }
 
 /// Whether the name is `_` and the variable of this index occurs in the term. Of other names it does not matter.
-pub(crate) fn is_used(name: &Name, term: &Term, index: u64) -> bool
+pub(crate) fn is_needed_underscore(name: &Name, term: &Term, index: u64) -> bool
     ensures { result ≡ (same_name name.now underscore && choice.occurs index (named term.now)) }
 {
     if is_underscore(name) {

@@ -5,7 +5,7 @@ ghost use Rattle.pts_terms.specs.Seen.{named};
 ghost use Rattle.pts_printed.specs.Locals as written;
 ghost use Rattle.pts_names.specs.Name.{same_name, underscore};
 
-use crate::choice::{add_constants, is_underscore, is_used};
+use crate::choice::{add_constants, is_underscore, is_needed_underscore};
 use crate::occurrence::occurs;
 use crate::outer::Outer;
 use crate::taken::Taken;
@@ -26,7 +26,7 @@ pub(crate) fn chosen_locals(
     add_constants(term, &mut taken)?;
     for place in 0..locals.len() {
         let local = &locals[place];
-        let used = is_used(local, term, (locals.len() - 1 - place) as u64);
+        let used = is_needed_underscore(local, term, (locals.len() - 1 - place) as u64);
         let name = taken.choice(alloc, local, used)?;
         taken.add_variable(name)?;
     }

@@ -1,8 +1,8 @@
 // Whether the variables around a place occur.
 
 ghost use Rattle.std.specs.Prelude.{◌≡◌, ◌∷◌, [], OnOk, false};
-ghost use Rattle.pts_printer.specs.Calls.{without_first};
-ghost use Rattle.pts_printer.specs.Marks.{first_mark, mark_at};
+ghost use Rattle.pts_printer.specs.Calls.{first_or_false, without_first};
+ghost use Rattle.pts_printer.specs.Marks.{mark_at};
 
 use std::alloc::{AllocError, Global};
 use std::marker::Model;
@@ -42,7 +42,7 @@ impl Marks {
     /// Leaves the innermost variable, and says whether it was marked.
     #[tactic(auto, using(crate::proofs::Names::reverse_more))]
     pub(crate) fn leave(&mut self) -> bool
-        ensures marked { result ≡ first_mark self.old }
+        ensures marked { result ≡ first_or_false self.old }
         ensures others { self.new ≡ without_first self.old }
     {
         match self.marks.pop() {

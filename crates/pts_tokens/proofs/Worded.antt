@@ -9,7 +9,7 @@ use Rattle.pts_names.specs.Name.{same_name, is_keyword, is_sort_spelling, name_f
 use Rattle.pts_names.specs.Name as names
 use Rattle.pts_names.specs.declared.fault.NameFault.{NameFault}
 use Rattle.pts_names.specs.declared.fault.NameFault.TheVariants.{Empty, BadStart, BadPart, TooLong, Memory}
-use Rattle.pts_names.proofs.Keywords.{same_characters}
+use Rattle.pts_names.proofs.Keywords.{same_characters, let_characters, in_characters, let_bytes, in_bytes}
 use Rattle.pts_names.proofs.Sound.{name_is_sound as sound_name}
 use Rattle.pts_tokens.specs.declared.token.Token.TheVariants.{Let, In, Name, Sort}
 use Rattle.pts_tokens.specs.declared.fault.TokenFault.TheVariants.{LongName, BadChar}
@@ -17,22 +17,6 @@ use Rattle.pts_tokens.specs.Tokens.{word, begins_identifier, name, token, long_n
 use Rattle.pts_tokens.specs.Calls.{sized, fault_at}
 use Rattle.pts_tokens.proofs.Words.{cut_word, word_cut}
 use Rattle.pts_tokens.proofs.Named.{name_is_sound, word_is_sound}
-
-let_characters : chars (codes "let") ≡ codes "let"
-unfolding str.chars
-let_characters = refl
-
-in_characters : chars (codes "in") ≡ codes "in"
-unfolding str.chars
-in_characters = refl
-
-let_bytes : encodes (codes "let") ≡ codes "let"
-unfolding encode
-let_bytes = refl
-
-in_bytes : encodes (codes "in") ≡ codes "in"
-unfolding encode
-in_bytes = refl
 
 -- The word of a text, as the bytes that are cut off.
 word_is : (text front kw : List ℕ) (n : ℕ) → IsUtf8 text → n ≡ width (word (chars text)) → front ≡ take n text → encodes kw ≡ kw → chars kw ≡ kw → same_name (word (chars text)) kw ≡ pointwise nat_eq front kw

@@ -14,7 +14,7 @@ loop-place-preserved c =
     record {
       variables =
           local_named (constants t) W _ c.add_variable.new.self.variables c.in_ok-name.name c.args.locals.now t c.loop-place.place x c.loop-place-test.true c.index-locals-place.is
-          (c.in_ok-name.ensures ∙ (ap (λ u. choice x u (W ++ c.loop-place.taken.constants)) c.is_used-used.ensures ∙ ap (λ cs. choice x used (W ++ cs)) c.loop-place.invariant.constants))
+          (c.in_ok-name.ensures ∙ (ap (λ u. choice x u (W ++ c.loop-place.taken.constants)) c.is_needed_underscore-used.ensures ∙ ap (λ cs. choice x used (W ++ cs)) c.loop-place.invariant.constants))
           c.in_ok-add_variable.ensures.variables c.loop-place.invariant.variables;
       constants = c.in_ok-add_variable.ensures.constants ∙ c.loop-place.invariant.constants;
     }
