@@ -12,7 +12,8 @@ use Rattle.pts_module_file.specs.File.{File, module_of}
 use Rattle.pts_printed.specs.Locals.{printed}
 use Rattle.pts_reduce_cost.specs.Costs.{Globals}
 use Rattle.pts_declare.specs.Statements.{Statement, assumes, defines}
-use Rattle.pts_declare.specs.Words.{read_text, stop_text, spent_text}
+use Rattle.pts_module_file.specs.FaultText.{file_why_text}
+use Rattle.pts_declare.specs.Words.{stop_text, spent_text}
 use Rattle.pts_batch.specs.Loading.{Loaded, entered, stopped, spent, Loads}
 
 -- The statements of a file, each with the number of its line.
@@ -61,13 +62,9 @@ refusal_line M text = codes "refused " ++ (M ++ (codes " " ++ text))
 abbrev pub refusal : Name → List ℕ → BatchAnswer
 refusal M text = record { lines = refusal_line M text ∷ []; entries = []; labels = []; refused = true }
 
-abbrev pub why_text : FileWhy → List ℕ
-why_text Form = codes "Form"
-why_text (Read e) = read_text e
-
 -- The refusal of a line that breaks the format.
 abbrev pub bad_line : ℕ → FileWhy → List ℕ
-bad_line n w = codes "BadFile " ++ (decimal n ++ (codes " " ++ why_text w))
+bad_line n w = codes "BadFile " ++ (decimal n ++ (codes " " ++ file_why_text w))
 
 -- An entry with its type.
 abbrev pub entry_line : List (List ℕ) → Global Name → List ℕ

@@ -7,7 +7,7 @@ ghost use Rattle.pts_rules.specs.Derives.{Legal};
 ghost use Rattle.pts_module_file.specs.File.{AllShort, module_file_of, module_of};
 ghost use Rattle.pts_names.specs.Name.{is_short};
 ghost use Rattle.pts_declare.specs.Answered.{fault_text};
-ghost use Rattle.pts_batch.specs.Batches.{BatchAnswers, refusal, bad_line, at_line, unbuilt_line, why_text, with_entries};
+ghost use Rattle.pts_batch.specs.Batches.{BatchAnswers, refusal, bad_line, at_line, unbuilt_line, with_entries};
 ghost use Rattle.pts_batch.specs.Calls.{AnswersBadFile, AnswersFault};
 ghost use Rattle.pts_batch.specs.Evidence.{declared_entries, MayFollow};
 ghost use Rattle.pts_batch.specs.Shown.{answer_seen, Evident};
@@ -16,7 +16,7 @@ use crate::lines::entry_lines;
 use crate::loading::{LoadFault, Loading, load};
 use crate::world::{Batch, World};
 use pts_ctx::{Context, ROOM, System};
-use pts_declare::{DeclareFault, fault_text, read_text};
+use pts_declare::{DeclareFault, fault_text};
 use pts_module_file::{ModuleFile, FileFault, ModuleLine, FileWhy, read_module};
 use pts_names::{List, Name, Text};
 use pts_rules::Meter;
@@ -63,18 +63,8 @@ fn bad_line(alloc: Global, name: &Name, line: usize, why: &FileWhy) -> Result<Ba
     ensures units { IfOk result (λ r. r.units ≡ 0) }
     ensures evidence { IfOk result (λ r. (r.declarations ≡ []) × (r.context.entries ≡ [])) }
 {
-    let why = why_text(alloc, why)?;
     let text = format!(in alloc; "BadFile {line} {why}")?;
     refusal(alloc, name, text.as_str(), 0)
-}
-
-fn why_text(alloc: Global, why: &FileWhy) -> Result<String, AllocError>
-    ensures { IfOk result (λ s. string_bytes s ≡ why_text why.now) }
-{
-    match why {
-        FileWhy::Form => String::from_str(alloc, "Form"),
-        FileWhy::Read(fault) => read_text(alloc, fault),
-    }
 }
 
 // A file in its format.

@@ -3,3 +3,4 @@ pub mod Rows
 pub mod Certificate
 pub mod Calls
 pub mod Seen
+pub mod FaultText

@@ -2,6 +2,8 @@ ghost use Rattle.std.specs.Prelude.{◌≡◌};
 
 use pts_ctx::SystemFault;
 use std::alloc::{AllocError, AllocFailed};
+use std::fmt;
+use std::fmt::{Display, Formatter};
 
 /// Why a text is no certificate. Lines are counted from 1.
 #[derive(Debug, Drop)]
@@ -18,6 +20,24 @@ pub enum CertificateFault {
     System(SystemFault),
     /// There was no memory for the certificate.
     Memory,
+}
+
+impl Display for CertificateFault {
+    ghost use Rattle.std.specs.Prelude.{Some};
+    ghost use Rattle.pts_certificate.specs.FaultText.{certificate_text};
+
+    ghost output = { λ e. Some (certificate_text e) };
+
+    fn fmt<W: fmt::Write>(&self, f: &mut Formatter<W>) -> fmt::Result {
+        match self {
+            CertificateFault::BadLine(line) => write!(f, "BadLine {line}"),
+            CertificateFault::BadNumber(line) => write!(f, "BadNumber {line}"),
+            CertificateFault::TooLarge(line) => write!(f, "TooLarge {line}"),
+            CertificateFault::Truncated => f.write_str("Truncated"),
+            CertificateFault::System(fault) => write!(f, "{fault}"),
+            CertificateFault::Memory => f.write_str("Memory"),
+        }
+    }
 }
 
 /// Why a line is refused.

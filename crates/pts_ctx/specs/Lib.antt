@@ -5,3 +5,4 @@ pub mod Entries
 pub mod Tables
 pub mod Prefix
 pub mod Firsts
+pub mod FaultText

@@ -12,6 +12,8 @@ use crate::places::{by_sorts, sort_among};
 use pts_names::SortName;
 use pts_terms::Sort;
 use std::alloc::{AllocError, AllocFailed, Global};
+use std::fmt;
+use std::fmt::{Display, Formatter};
 use std::marker::Model;
 
 /// Where a sort that isn't declared stands.
@@ -49,6 +51,38 @@ impl<T: Drop> From<AllocFailed<T>> for SystemFault {
 
     fn from(_error: AllocFailed<T>) -> SystemFault {
         SystemFault::Memory
+    }
+}
+
+impl Display for SystemPart {
+    ghost use Rattle.std.specs.Prelude.{Some};
+    ghost use Rattle.pts_ctx.specs.FaultText.{part_text};
+
+    ghost output = { λ p. Some (part_text p) };
+
+    fn fmt<W: fmt::Write>(&self, f: &mut Formatter<W>) -> fmt::Result {
+        f.write_str(match self {
+            SystemPart::Axiom => "Axiom",
+            SystemPart::Rule => "Rule",
+        })
+    }
+}
+
+impl Display for SystemFault {
+    ghost use Rattle.std.specs.Prelude.{Some};
+    ghost use Rattle.pts_ctx.specs.FaultText.{system_text};
+
+    ghost output = { λ e. Some (system_text e) };
+
+    fn fmt<W: fmt::Write>(&self, f: &mut Formatter<W>) -> fmt::Result {
+        match self {
+            SystemFault::TooManySorts(count) => write!(f, "TooManySorts {count}"),
+            SystemFault::DuplicateSort(first, second) => write!(f, "DuplicateSort {first} {second}"),
+            SystemFault::UnknownSort(part, place) => write!(f, "UnknownSort {part} {place}"),
+            SystemFault::AxiomClash(first, second) => write!(f, "AxiomClash {first} {second}"),
+            SystemFault::RuleClash(first, second) => write!(f, "RuleClash {first} {second}"),
+            SystemFault::Memory => f.write_str("Memory"),
+        }
     }
 }
 

@@ -11,7 +11,7 @@ use Rattle.pts_infer.specs.declared.answer.InferFault.TheVariants as infer
 use Rattle.pts_infer.specs.declared.answer.FitFault.{FitFault}
 use Rattle.pts_infer.specs.declared.answer.FitFault.TheVariants as fit
 use Rattle.pts_infer.specs.Answered.{Refused, Unfit, OfTerm, OfType, OfFitted}
-use Rattle.pts_declare.specs.declared.fault.Part.TheVariants.{Whole, Ty}
+use Rattle.pts_infer.specs.declared.part.Part.TheVariants.{Whole, Ty}
 use Rattle.pts_declare.specs.Statements.{assumption, definition, typed_definition}
 use Rattle.pts_declare.specs.Declaring.{flawed, entry, Checks, of_assumption, of_definition, of_typed_definition}
 use Rattle.pts_declare.specs.Answered.{NotDeclared, told_in, told_of}

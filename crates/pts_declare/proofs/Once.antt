@@ -8,7 +8,7 @@ use Rattle.pts_reduce_cost.specs.Costs.{Globals}
 use Rattle.pts_infer_cost.specs.Typing.{Fits, Flaw, FitFlaw, Stop, moved, judged, by_flaw, Outcome, comes, stops, inference_nesting}
 use Rattle.pts_infer_cost.proofs.Exact.{inference_once, sorts_once, fit_once}
 use Rattle.pts_infer.specs.Answered.{OfTerm, term_too_large, term_inferred, OfType, type_too_large, type_sorted, OfFitted, body_too_large, wanted_too_large, body_stops, body_fitted}
-use Rattle.pts_declare.specs.declared.fault.Part.TheVariants.{Whole, Ty}
+use Rattle.pts_infer.specs.declared.part.Part.TheVariants.{Whole, Ty}
 use Rattle.pts_declare.specs.Statements.{Statement, name_of, Stated, assumption, definition, typed_definition}
 use Rattle.pts_declare.specs.Declaring.{DeclareOutcome, unread, taken, flawed, turned, of_fit, entry, Checks, of_assumption, of_definition, of_typed_definition, Declares, unknown_word, taken_name, checked}
 

@@ -19,8 +19,8 @@ use Rattle.pts_infer.specs.declared.answer.FitFault.TheVariants as fit
 use Rattle.pts_parser.specs.declared.fault.ReadFault.{ReadFault}
 use Rattle.pts_parser.specs.declared.fault.ReadFault.TheVariants as read
 use Rattle.pts_parser.specs.Resolution.{UnlessMemory}
-use Rattle.pts_declare.specs.declared.fault.Part.{Part}
-use Rattle.pts_declare.specs.declared.fault.Part.TheVariants.{Whole, Ty}
+use Rattle.pts_infer.specs.declared.part.Part.{Part}
+use Rattle.pts_infer.specs.declared.part.Part.TheVariants.{Whole, Ty}
 use Rattle.pts_declare.specs.declared.fault.DeclareFault.{DeclareFault}
 use Rattle.pts_declare.specs.declared.fault.DeclareFault.TheVariants.{Read, Taken, Flawed, Spent, Deep, Memory}
 use Rattle.pts_declare.specs.declared.stated.Stated.{Stated as TheStated}

@@ -9,8 +9,8 @@ use Rattle.pts_parser.specs.declared.fault.ReadFault.{ReadFault}
 use Rattle.pts_reduce_cost.specs.Costs.{Globals}
 use Rattle.pts_infer_cost.specs.Typing.{Flaw, FitFlaw, wanted, judged, by_flaw, moved, Outcome, comes, stops}
 use Rattle.pts_infer.specs.Answered.{OfTerm, OfType, OfFitted}
-use Rattle.pts_declare.specs.declared.fault.Part.{Part}
-use Rattle.pts_declare.specs.declared.fault.Part.TheVariants.{Whole, Ty}
+use Rattle.pts_infer.specs.declared.part.Part.{Part}
+use Rattle.pts_infer.specs.declared.part.Part.TheVariants.{Whole, Ty}
 use Rattle.pts_declare.specs.Statements.{Statement, name_of, Stated, assumption, definition, typed_definition, stated, visible}
 
 -- Why a statement is refused: a name or a sort in it is unknown; its name stands at a place of the front; or one of its

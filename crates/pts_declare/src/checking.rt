@@ -14,7 +14,7 @@ ghost use Rattle.pts_declare.specs.Statements.{assumption, definition, typed_def
 ghost use Rattle.pts_declare.specs.Declaring.{Checks};
 ghost use Rattle.pts_declare.specs.Answered.{MayEnter, NotDeclared, stated_of, told_in, told_of};
 
-use crate::fault::{DeclareFault, Part};
+use crate::fault::DeclareFault;
 use crate::stated::Stated;
 use pts_check::concludes;
 use pts_ctx::{Context, System};

@@ -2,16 +2,9 @@
 
 ghost use Rattle.std.specs.Prelude.{◌≡◌, ℕ};
 
-use pts_infer::Flaw;
+use pts_infer::{Flaw, Part};
 use pts_names::Name;
 use pts_parser::ReadFault;
-
-/// The part of a declaration that has a flaw: its body, or its type.
-#[derive(Clone, Copy, Debug, PartialEq, Eq)]
-pub enum Part {
-    Whole,
-    Ty,
-}
 
 /// Why a statement does not become a declaration.
 #[derive(Debug, Drop)]

@@ -11,8 +11,9 @@ mod stated;
 mod statements;
 mod words;
 
-pub use fault::{DeclareFault, Part};
+pub use fault::DeclareFault;
+pub use pts_infer::Part;
 pub use laws::statements_have_one_outcome;
 pub use scope::FileScope;
 pub use statements::{assume, define};
-pub use words::{fault_text, read_text};
+pub use words::fault_text;

@@ -4,3 +4,4 @@ pub mod Machine
 pub mod Seen
 pub mod Open
 pub mod Refusals
+pub mod FaultText

@@ -1,3 +1,6 @@
+use std::fmt;
+use std::fmt::{Display, Formatter};
+
 /// What must stand at a place. The first three and `Semicolon`, `Number` belong to lines of commands alone.
 #[derive(Clone, Copy, Debug, PartialEq, Eq)]
 pub enum Kind {
@@ -25,4 +28,28 @@ pub enum Kind {
     Number,
     /// The end of the text.
     End,
+}
+
+impl Display for Kind {
+    ghost use Rattle.std.specs.Prelude.{Some};
+    ghost use Rattle.pts_grammar.specs.FaultText.{kind_text};
+
+    ghost output = { λ k. Some (kind_text k) };
+
+    fn fmt<W: fmt::Write>(&self, f: &mut Formatter<W>) -> fmt::Result {
+        f.write_str(match self {
+            Kind::Command => "Command",
+            Kind::Term => "Term",
+            Kind::Name => "Name",
+            Kind::Plain => "Plain",
+            Kind::Colon => "Colon",
+            Kind::Dot => "Dot",
+            Kind::Assign => "Assign",
+            Kind::In => "In",
+            Kind::Close => "Close",
+            Kind::Semicolon => "Semicolon",
+            Kind::Number => "Number",
+            Kind::End => "End",
+        })
+    }
 }

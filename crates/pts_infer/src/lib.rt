@@ -15,6 +15,7 @@ mod functions;
 mod inferring;
 mod judgements;
 mod leaves;
+mod part;
 mod pay;
 mod products;
 mod reduced;
@@ -25,5 +26,6 @@ mod told;
 
 pub use answer::{FitFault, Flaw, FlawKind, InferFault, Typed};
 pub use calls::{fit, infer, sort_test};
+pub use part::Part;
 pub use pts_reduce::{Conversion, Meter, ReduceFault, Whnf, convert, whnf};
 pub use terms::{infer_fitted, infer_term, infer_type};

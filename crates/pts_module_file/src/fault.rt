@@ -2,6 +2,8 @@ ghost use Rattle.std.specs.Prelude.{◌≡◌};
 
 use pts_parser::ReadFault;
 use std::alloc::{AllocError, AllocFailed};
+use std::fmt;
+use std::fmt::{Display, Formatter};
 
 /// Why a line breaks the format of module files.
 #[derive(Debug, Drop)]
@@ -10,6 +12,20 @@ pub enum FileWhy {
     Form,
     /// It begins with the word of a parameter or a declaration that may stand there, and is refused so.
     Read(ReadFault),
+}
+
+impl Display for FileWhy {
+    ghost use Rattle.std.specs.Prelude.{Some};
+    ghost use Rattle.pts_module_file.specs.FaultText.{file_why_text};
+
+    ghost output = { λ w. Some (file_why_text w) };
+
+    fn fmt<W: fmt::Write>(&self, f: &mut Formatter<W>) -> fmt::Result {
+        match self {
+            FileWhy::Form => f.write_str("Form"),
+            FileWhy::Read(fault) => write!(f, "{fault}"),
+        }
+    }
 }
 
 /// Why bytes are no module file.

@@ -1,3 +1,4 @@
 pub mod Resolution
 pub mod Reading
 pub mod Calls
+pub mod FaultText

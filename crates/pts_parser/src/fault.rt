@@ -4,6 +4,8 @@ use pts_names::{Name, SortName};
 use pts_grammar::{Kind, SyntaxFault};
 use pts_tokens::TokenFault;
 use std::alloc::{AllocError, AllocFailed};
+use std::fmt;
+use std::fmt::{Display, Formatter};
 
 /// Why a text is no term. A place is the number of bytes before it.
 #[derive(Debug, Drop)]
@@ -69,6 +71,25 @@ impl From<SyntaxFault> for ReadFault {
             SyntaxFault::Expected(place, kind) => ReadFault::Expected(place, kind),
             SyntaxFault::TooDeep(place) => ReadFault::TooDeep(place),
             SyntaxFault::Memory => ReadFault::Memory,
+        }
+    }
+}
+
+impl Display for ReadFault {
+    ghost use Rattle.std.specs.Prelude.{Some};
+    ghost use Rattle.pts_parser.specs.FaultText.{read_text};
+
+    ghost output = { λ e. Some (read_text e) };
+
+    fn fmt<W: fmt::Write>(&self, f: &mut Formatter<W>) -> fmt::Result {
+        match self {
+            ReadFault::BadChar(place) => write!(f, "BadChar {place}"),
+            ReadFault::LongName(place) => write!(f, "LongName {place}"),
+            ReadFault::Expected(place, kind) => write!(f, "Expected {place} {kind}"),
+            ReadFault::TooDeep(place) => write!(f, "TooDeep {place}"),
+            ReadFault::UnknownName(place, name) => write!(f, "UnknownName {place} {name}"),
+            ReadFault::UnknownSort(place, sort) => write!(f, "UnknownSort {place} {sort}"),
+            ReadFault::Memory => f.write_str("Memory"),
         }
     }
 }

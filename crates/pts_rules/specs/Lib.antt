@@ -6,3 +6,4 @@ pub mod Conditions
 pub mod Valid
 pub mod Laws
 pub mod Meter
+pub mod FaultText

@@ -1,5 +1,8 @@
 // Why a node is no instance of its form.
 
+use std::fmt;
+use std::fmt::{Display, Formatter};
+
 /// The first condition of a form that a node breaks. A number counts the links of the node's line: its context is 0,
 /// its premises are 1 to 3; in a line that has no context its one link is 0.
 #[derive(Clone, Copy, Debug, PartialEq, Eq)]
@@ -26,4 +29,27 @@ pub enum Why {
     NoStep,
     /// The record is valid, and its last node does not conclude its declaration.
     Conclusion,
+}
+
+impl Display for Why {
+    ghost use Rattle.std.specs.Prelude.{Some};
+    ghost use Rattle.pts_rules.specs.FaultText.{why_text};
+
+    ghost output = { λ w. Some (why_text w) };
+
+    fn fmt<W: fmt::Write>(&self, f: &mut Formatter<W>) -> fmt::Result {
+        match self {
+            Why::Kind(link) => write!(f, "Kind {link}"),
+            Why::Place(link) => write!(f, "Place {link}"),
+            Why::Subject => f.write_str("Subject"),
+            Why::Claim => f.write_str("Claim"),
+            Why::Premise(link) => write!(f, "Premise {link}"),
+            Why::SortOf(link) => write!(f, "SortOf {link}"),
+            Why::NoAxiom => f.write_str("NoAxiom"),
+            Why::NoRule => f.write_str("NoRule"),
+            Why::NoEntry => f.write_str("NoEntry"),
+            Why::NoStep => f.write_str("NoStep"),
+            Why::Conclusion => f.write_str("Conclusion"),
+        }
+    }
 }

@@ -1,3 +1,4 @@
 pub mod Shapes
 pub mod SpecFile
 pub mod Calls
+pub mod FaultText

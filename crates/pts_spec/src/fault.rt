@@ -3,6 +3,8 @@ ghost use Rattle.std.specs.Prelude.{◌≡◌};
 use pts_ctx::SystemFault;
 use pts_names::Text;
 use std::alloc::{AllocError, AllocFailed};
+use std::fmt;
+use std::fmt::{Display, Formatter};
 
 /// Why bytes are no specification of a system, in the order in which it is asked.
 #[derive(Debug, Drop)]
@@ -25,6 +27,25 @@ impl From<AllocError> for SpecFault {
 
     fn from(_error: AllocError) -> SpecFault {
         SpecFault::Memory
+    }
+}
+
+impl Display for SpecFault {
+    ghost use Rattle.std.specs.Prelude.{Some};
+    ghost use Rattle.pts_spec.specs.FaultText.{specification_text};
+
+    ghost output = { λ e. Some (specification_text e) };
+
+    fn fmt<W: fmt::Write>(&self, f: &mut Formatter<W>) -> fmt::Result {
+        match self {
+            SpecFault::NotToml => f.write_str("NotToml"),
+            SpecFault::Shape(key) => {
+                f.write_str("Shape ")?;
+                f.write_str(key.text())
+            }
+            SpecFault::System(fault) => write!(f, "{fault}"),
+            SpecFault::Memory => f.write_str("Memory"),
+        }
     }
 }
 

@@ -4,9 +4,8 @@ use Rattle.pts_ctx.specs.System.{Specification}
 use Rattle.pts_io.specs.Counts.{raised, Rose}
 use Rattle.pts_io.specs.Files.{file_of}
 use Rattle.pts_spec.specs.declared.fault.SpecFault.{SpecFault}
-use Rattle.pts_spec.specs.declared.fault.SpecFault.TheVariants.{NotToml, Shape, System, Memory as NoSpecMemory}
+use Rattle.pts_spec.specs.FaultText.{specification_text}
 use Rattle.pts_spec.specs.SpecFile.{system_of}
-use Rattle.yarrow.specs.Words.{system_text}
 use Rattle.yarrow.specs.declared.system.Unready.{Unready}
 use Rattle.yarrow.specs.declared.system.Unready.TheVariants.{LibraryFailed, NoFile, TooLong, Refused, NoMemory}
 
@@ -51,13 +50,6 @@ RefusesFile bytes NoFile = ⊥
 RefusesFile bytes TooLong = ⊥
 RefusesFile bytes (Refused e) = system_of bytes ≡ Err e
 RefusesFile bytes NoMemory = Unit {0}
-
--- The refusal of a specification, as it is printed. Want of memory is never printed.
-abbrev pub specification_text : SpecFault → List ℕ
-specification_text NotToml = codes "NotToml"
-specification_text (Shape key) = codes "Shape " ++ key
-specification_text (System e) = system_text e
-specification_text NoSpecMemory = codes "Memory"
 
 -- What is printed where there is no system, and the status.
 abbrev pub unready_line : List ℕ → Unready → List ℕ

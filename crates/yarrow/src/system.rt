@@ -3,9 +3,8 @@
 ghost use Rattle.std.specs.Prelude.{◌≡◌, Some, Ok, IfOk, IfErr, IfSome, string_bytes};
 ghost use Rattle.pts_spec.specs.SpecFile.{system_of};
 ghost use Rattle.pts_io.specs.Files.{file_of};
-ghost use Rattle.yarrow.specs.Systems.{IsReady, IsUnready, IsUnread, RefusesFile, specification_text, unready_line, unready_status};
+ghost use Rattle.yarrow.specs.Systems.{IsReady, IsUnready, IsUnread, RefusesFile, unready_line, unready_status};
 
-use crate::words::system_text;
 use pts_ctx::System;
 use pts_io::{Found, Library, ReadFail};
 use pts_spec::{SpecFault, read_system};
@@ -94,24 +93,7 @@ pub(crate) fn unready_line(alloc: Global, name: &str, why: &Unready) -> Result<S
         Unready::LibraryFailed => format!(in alloc; "library failed {name}\n"),
         Unready::NoFile => format!(in alloc; "no file {name}\n"),
         Unready::TooLong => format!(in alloc; "too long {name}\n"),
-        Unready::Refused(fault) => {
-            let fault = specification_text(alloc, fault)?;
-            format!(in alloc; "refused system {fault}\n")
-        }
+        Unready::Refused(fault) => format!(in alloc; "refused system {fault}\n"),
         Unready::NoMemory => Ok(String::new(alloc)),
-    }
-}
-
-fn specification_text(alloc: Global, fault: &SpecFault) -> Result<String, AllocError>
-    ensures { IfOk result (λ s. string_bytes s ≡ specification_text fault.now) }
-{
-    match fault {
-        SpecFault::NotToml => String::from_str(alloc, "NotToml"),
-        SpecFault::Shape(key) => {
-            let key = key.text();
-            format!(in alloc; "Shape {key}")
-        }
-        SpecFault::System(fault) => system_text(alloc, fault),
-        SpecFault::Memory => String::from_str(alloc, "Memory"),
     }
 }
