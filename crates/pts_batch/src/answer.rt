@@ -17,7 +17,7 @@ use crate::loading::{LoadFault, Loading, load};
 use crate::world::{Batch, World};
 use pts_ctx::{Context, ROOM, System};
 use pts_declare::{DeclareFault, fault_text};
-use pts_module_file::{ModuleFile, FileFault, ModuleLine, FileWhy, read_module};
+use pts_module_file::{FileFault, FileWhy, ModuleFile, ModuleLine, read_module};
 use pts_names::{List, Name, Text};
 use pts_rules::Meter;
 use std::alloc::{AllocError, Global};

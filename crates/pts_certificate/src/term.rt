@@ -25,7 +25,11 @@ const TERM_ROWS: [(&str, RowKind); 7] = [
 
 /// The term that is written behind `t`.
 #[tactic(auto, unfolding(crate::specs::Rows::term_row))]
-pub(crate) fn term_row(alloc: Global, system: &System, mut fields: Words) -> Result<Shape, LineFault>
+pub(crate) fn term_row(
+    alloc: Global,
+    system: &System,
+    mut fields: Words,
+) -> Result<Shape, LineFault>
     ensures { Answers result (format.term_row system.now fields.entry) }
 {
     match row_of(&TERM_ROWS, fields.field()?) {
@@ -34,7 +38,12 @@ pub(crate) fn term_row(alloc: Global, system: &System, mut fields: Words) -> Res
     }
 }
 
-fn row_of_kind(alloc: Global, system: &System, kind: RowKind, fields: Words) -> Result<Shape, LineFault>
+fn row_of_kind(
+    alloc: Global,
+    system: &System,
+    kind: RowKind,
+    fields: Words,
+) -> Result<Shape, LineFault>
     ensures { Answers result (row_of_kind system.now kind fields.entry) }
 {
     match kind {

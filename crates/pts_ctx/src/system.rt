@@ -77,7 +77,10 @@ impl Display for SystemFault {
     fn fmt<W: fmt::Write>(&self, f: &mut Formatter<W>) -> fmt::Result {
         match self {
             SystemFault::TooManySorts(count) => write!(f, "TooManySorts {count}"),
-            SystemFault::DuplicateSort(first, second) => write!(f, "DuplicateSort {first} {second}"),
+            SystemFault::DuplicateSort(first, second) => write!(
+                f,
+                "DuplicateSort {first} {second}"
+            ),
             SystemFault::UnknownSort(part, place) => write!(f, "UnknownSort {part} {place}"),
             SystemFault::AxiomClash(first, second) => write!(f, "AxiomClash {first} {second}"),
             SystemFault::RuleClash(first, second) => write!(f, "RuleClash {first} {second}"),

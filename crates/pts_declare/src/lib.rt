@@ -12,8 +12,8 @@ mod statements;
 mod words;
 
 pub use fault::DeclareFault;
-pub use pts_infer::Part;
 pub use laws::statements_have_one_outcome;
+pub use pts_infer::Part;
 pub use scope::FileScope;
 pub use statements::{assume, define};
 pub use words::fault_text;

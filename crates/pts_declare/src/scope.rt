@@ -63,4 +63,3 @@ impl<'a> Scope for FileScope<'a> {
         }
     }
 }
-

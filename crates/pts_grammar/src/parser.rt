@@ -243,7 +243,11 @@ fn bracket(
 }
 
 /// The argument of a function, if there is one.
-fn applied(alloc: Global, function: Option<Subtree>, argument: Subtree) -> Result<Subtree, AllocError>
+fn applied(
+    alloc: Global,
+    function: Option<Subtree>,
+    argument: Subtree,
+) -> Result<Subtree, AllocError>
     ensures { IfOk result (λ p. part_of p ≡ applied_to parts (option_map part_of function) (part_of argument)) }
 {
     match function {

@@ -71,7 +71,11 @@ impl Subtree {
     }
 
     /// A function applied to an argument.
-    pub(crate) fn applied(alloc: Global, function: Subtree, argument: Subtree) -> Result<Subtree, AllocError>
+    pub(crate) fn applied(
+        alloc: Global,
+        function: Subtree,
+        argument: Subtree,
+    ) -> Result<Subtree, AllocError>
         ensures { IfOk result (λ p. part_of p ≡ parts.applied (part_of function) (part_of argument)) }
     {
         let depth = function.depth.max(argument.depth);
@@ -116,7 +120,11 @@ impl Subtree {
     }
 
     /// A product that is written with an arrow.
-    pub(crate) fn arrow(alloc: Global, domain: Subtree, body: Subtree) -> Result<Subtree, AllocError>
+    pub(crate) fn arrow(
+        alloc: Global,
+        domain: Subtree,
+        body: Subtree,
+    ) -> Result<Subtree, AllocError>
         ensures { IfOk result (λ p. part_of p ≡ parts.bound Pi underscore (part_of domain) (part_of body)) }
     {
         match Name::read(alloc, "_") {

@@ -4,8 +4,7 @@ ghost use Rattle.std.specs.Prelude.{◌≡◌, ◌<◌, length, IfOk};
 ghost use Rattle.pts_grow.specs.Keeps.{Keeps, StaysValid};
 ghost use Rattle.pts_grow.specs.Judges.{IsTypedContext, Judges, IsEmpty, IsAssumeOf, IsDefineOf, IsSort};
 
-use crate::Judged;
-use crate::push;
+use crate::{Judged, push};
 use pts_record::{Form, Node, Record};
 use std::alloc::AllocError;
 

@@ -7,8 +7,7 @@ ghost use Rattle.pts_record.specs.Said.{named_told, scope_of};
 ghost use Rattle.pts_grow.specs.Keeps.{Keeps, StaysValid, Compares};
 ghost use Rattle.pts_grow.specs.Judges.{IsTypedContext, Judges, IsSort};
 
-use crate::Judged;
-use crate::{Compared, push};
+use crate::{Compared, Judged, push};
 use pts_record::{Form, Node, Record};
 use std::alloc::AllocError;
 

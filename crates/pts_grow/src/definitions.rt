@@ -6,8 +6,7 @@ ghost use Rattle.pts_record.specs.Table.{bare_at};
 ghost use Rattle.pts_grow.specs.Keeps.{Keeps, StaysValid};
 ghost use Rattle.pts_grow.specs.Judges.{IsTypedContext, Judges, IsDefineOf, IsSort};
 
-use crate::Judged;
-use crate::push;
+use crate::{Judged, push};
 use pts_record::{Form, Node, Record};
 use std::alloc::AllocError;
 

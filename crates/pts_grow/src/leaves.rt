@@ -11,9 +11,8 @@ ghost use Rattle.pts_rules.specs.Valid.{IsValid};
 ghost use Rattle.pts_grow.specs.Keeps.{Keeps, StaysValid};
 ghost use Rattle.pts_grow.specs.Judges.{IsTypedContext, Judges, type_in, constant_type};
 
-use crate::Judged;
+use crate::{Judged, push};
 use pts_ctx::{Context, System};
-use crate::push;
 use pts_record::{Form, Node, Record};
 use pts_terms::Sort;
 use std::alloc::AllocError;

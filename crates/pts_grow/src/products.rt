@@ -9,9 +9,8 @@ ghost use Rattle.pts_rules.specs.Valid.{IsValid};
 ghost use Rattle.pts_grow.specs.Keeps.{Keeps, StaysValid};
 ghost use Rattle.pts_grow.specs.Judges.{IsTypedContext, Judges, IsAssumeOf, IsSort};
 
-use crate::{Judged, RuleSorts};
+use crate::{Judged, RuleSorts, push};
 use pts_ctx::System;
-use crate::push;
 use pts_record::{Form, Node, Record};
 use std::alloc::AllocError;
 

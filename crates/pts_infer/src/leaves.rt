@@ -20,7 +20,9 @@ use crate::fault::{Fault, What};
 use crate::pay::drain;
 use crate::told::flaw_here;
 use pts_ctx::{Context, System};
-use pts_grow::{Judged, TermFault, add_const, add_line, add_sort, add_var, entry_type, lift, take_in};
+use pts_grow::{
+    Judged, TermFault, add_const, add_line, add_sort, add_var, entry_type, lift, take_in,
+};
 use pts_names::Name;
 use pts_record::{Record, Shape};
 use pts_rules::Meter;

@@ -63,7 +63,11 @@ fn show_names(alloc: Global, given: &[Name], passed: Vec<Name>) -> Result<List<N
 }
 
 /// A flaw that was found.
-pub(crate) fn show_flaw(proof: &Record, names: &[Name], found: FoundFlaw) -> Result<Flaw, AllocError>
+pub(crate) fn show_flaw(
+    proof: &Record,
+    names: &[Name],
+    found: FoundFlaw,
+) -> Result<Flaw, AllocError>
     requires { ShownBelow (length proof.now.shapes) found.what }
     ensures { IfOk result (λ f. flaw_seen f ≡ behind names.now (flaw_of proof.now.shapes found)) }
 {

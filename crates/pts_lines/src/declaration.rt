@@ -12,9 +12,9 @@ use crate::command::Declaring;
 use crate::shape::{definition, typed};
 use crate::word::declared;
 use pts_bytes::text_of;
+use pts_grammar::{Kind, Tree};
 use pts_names::Name;
 use pts_parser::ReadFault;
-use pts_grammar::{Kind, Tree};
 use pts_tokens::{Token, TokenFault, read_tokens};
 use std::alloc::{AllocError, Global};
 

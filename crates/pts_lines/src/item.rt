@@ -4,9 +4,9 @@ ghost use Rattle.pts_lines.specs.Items.{plain as a_plain, label as a_label, plac
 ghost use Rattle.pts_lines.specs.Forms.{AnswersAs, ended};
 
 use pts_bytes::number_up_to;
+use pts_grammar::Kind;
 use pts_names::Name;
 use pts_parser::ReadFault;
-use pts_grammar::Kind;
 use pts_tokens::Token;
 use std::alloc::Global;
 

@@ -19,6 +19,6 @@ pub use command::Declaring;
 pub use declaration::{DeclaringLine, declaring_word, read_declaration};
 pub use laws::{line_refusals_are_determined, lines_are_unambiguous};
 pub use line::Line;
-pub use pts_parser::ReadFault;
 pub use pts_grammar::{Kind, Tree};
+pub use pts_parser::ReadFault;
 pub use read::read_line;

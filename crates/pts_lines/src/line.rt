@@ -1,5 +1,5 @@
-use pts_names::Name;
 use pts_grammar::Tree;
+use pts_names::Name;
 
 /// A line of a session: a command, and what it is to work on. The names and trees stand in the order of the text, but
 /// for `Define`, whose tree in the option is the type and stands before the body.

@@ -13,9 +13,9 @@ use crate::line::Line;
 use crate::shape::{definition, instance, only_name, only_number, only_plain, two_plain, typed};
 use crate::term::{only_term, two_terms};
 use crate::word::command;
+use pts_grammar::{Kind, Tree};
 use pts_names::Name;
 use pts_parser::ReadFault;
-use pts_grammar::{Kind, Tree};
 use pts_tokens::{Token, read_tokens};
 use std::alloc::Global;
 

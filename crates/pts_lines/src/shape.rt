@@ -5,9 +5,9 @@ ghost use Rattle.pts_lines.specs.Forms.{AnswersAs, run_form, plain_form, placed_
 
 use crate::item::{assign, colon, end, label, name, number, plain, sign};
 use crate::term::{any_terms, both, first_term, only_term};
+use pts_grammar::Tree;
 use pts_names::Name;
 use pts_parser::ReadFault;
-use pts_grammar::Tree;
 use pts_tokens::Token;
 use std::alloc::Global;
 

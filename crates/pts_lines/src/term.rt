@@ -6,8 +6,8 @@ ghost use Rattle.pts_lines.specs.Forms.{AnswersAs, all_of, some_of, begins_term,
 ghost use Rattle.pts_lines.specs.Forms as forms;
 
 use crate::item::{end, semicolon};
-use pts_parser::ReadFault;
 use pts_grammar::{Kind, Parsed, Tree, parse};
+use pts_parser::ReadFault;
 use pts_tokens::Token;
 use std::alloc::{AllocError, Global};
 

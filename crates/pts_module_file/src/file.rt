@@ -8,9 +8,9 @@ use crate::fault::{FileFault, FileLineFault, FileWhy};
 use crate::item::line_at;
 use crate::split::split_line;
 use crate::stage::{Item, Stage};
+use pts_grammar::Tree;
 use pts_lines::DeclaringLine;
 use pts_names::Name;
-use pts_grammar::Tree;
 use std::alloc::{AllocFailed, Global};
 
 /// A declaration: an assumption with its type, or a definition with its type, if it is written, and its body.

@@ -10,7 +10,7 @@ ghost use Rattle.pts_module_file.specs.Lines.{is_short_text, is_passed, has_shor
 use crate::fault::{FileLineFault, FileWhy};
 use crate::stage::{Item, Stage, behind, may_declare};
 use pts_bytes::{is_text, text_of};
-use pts_lines::{DeclaringLine, Declaring, declaring_word, read_declaration};
+use pts_lines::{Declaring, DeclaringLine, declaring_word, read_declaration};
 use pts_names::{Name, NameFault};
 use pts_parser::ReadFault;
 use std::alloc::{AllocError, Global};

@@ -1,7 +1,7 @@
 ghost use Rattle.std.specs.Prelude.{◌≡◌};
 ghost use Rattle.pts_module_file.specs.Lines as lines;
 
-use pts_lines::{DeclaringLine, Declaring};
+use pts_lines::{Declaring, DeclaringLine};
 use pts_names::Name;
 
 /// What may come next in a file.

@@ -1,4 +1,4 @@
-use crate::{ModuleFile, FileFault, FileWhy, read_module};
+use crate::{FileFault, FileWhy, ModuleFile, read_module};
 use pts_names::Name;
 use pts_parser::{Kind, ReadFault};
 use std::alloc::Global;
@@ -28,7 +28,8 @@ fn breaks_at(read: &Result<ModuleFile, FileFault>, line: usize) -> bool {
 
 fn is_refused_for(read: &Result<ModuleFile, FileFault>, kind: Kind) -> bool {
     match read {
-        Err(FileFault::BadFile(3, FileWhy::Read(ReadFault::Expected(_, wanted)))) => *wanted == kind,
+        Err(FileFault::BadFile(3, FileWhy::Read(ReadFault::Expected(_, wanted)))) => *wanted
+            == kind,
         _ => false,
     }
 }

@@ -77,4 +77,3 @@ fn place_among(names: &[Name], name: &Name) -> Option<usize>
     }
     None
 }
-

@@ -1,7 +1,7 @@
 ghost use Rattle.std.specs.Prelude.{◌≡◌};
 
-use pts_names::{Name, SortName};
 use pts_grammar::{Kind, SyntaxFault};
+use pts_names::{Name, SortName};
 use pts_tokens::TokenFault;
 use std::alloc::{AllocError, AllocFailed};
 use std::fmt;

@@ -5,7 +5,7 @@ ghost use Rattle.pts_terms.specs.Seen.{named};
 ghost use Rattle.pts_printed.specs.Locals as written;
 ghost use Rattle.pts_names.specs.Name.{same_name, underscore};
 
-use crate::choice::{add_constants, is_underscore, is_needed_underscore};
+use crate::choice::{add_constants, is_needed_underscore, is_underscore};
 use crate::occurrence::occurs;
 use crate::outer::Outer;
 use crate::taken::Taken;

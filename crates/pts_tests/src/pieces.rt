@@ -1,5 +1,5 @@
 use pts_io::{
-    Fail, MemorySink, MemorySource, WholeFault, Sink, Source, StdSink, StdSource, read_whole,
+    Fail, MemorySink, MemorySource, Sink, Source, StdSink, StdSource, WholeFault, read_whole,
     write_whole,
 };
 use std::alloc::{AllocError, Global};

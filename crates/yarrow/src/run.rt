@@ -12,7 +12,7 @@ use crate::batch::run_batch;
 use crate::command::{Command, command_of};
 use crate::format::run_format;
 use pts_ctx::Context;
-use pts_io::{Library, WholeFault, Sink, Source, read_whole, write_whole};
+use pts_io::{Library, Sink, Source, WholeFault, read_whole, write_whole};
 use pts_names::List;
 use std::alloc::Global;
 
@@ -56,7 +56,9 @@ pub fn run_check<S: Source, K: Sink>(alloc: Global, source: &mut S, sink: &mut K
     ensures order { result.order ≡ [] }
 {
     match read_whole(alloc, source, LIMIT) {
-        Err(WholeFault::Failed) => { printed(alloc, sink, 4, b"read failed\n", Context::new(alloc)) }
+        Err(WholeFault::Failed) => {
+            printed(alloc, sink, 4, b"read failed\n", Context::new(alloc))
+        }
         Err(WholeFault::TooMuch) => {
             printed(alloc, sink, 8, b"input too long\n", Context::new(alloc))
         }
