@@ -1,0 +1,12 @@
+pub mod Onward
+pub mod Seated
+pub mod Orders
+pub mod Closing
+pub mod Recorded
+pub mod Added
+pub mod Mapped
+pub mod Merges
+pub mod ByTurns
+pub mod Served
+pub mod Through
+pub mod Printing

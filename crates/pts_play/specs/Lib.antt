@@ -1,0 +1,12 @@
+pub mod Machines
+pub mod Rounds
+pub mod Inputs
+pub mod Play
+pub mod Ports
+pub mod ByTurns
+pub mod Serve
+pub mod Laws
+pub mod Seen
+pub mod Seats
+pub mod Turns
+pub mod Alone
