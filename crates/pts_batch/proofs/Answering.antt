@@ -8,6 +8,7 @@ use Rattle.pts_ctx.specs.Front.{bare_front}
 use Rattle.pts_rules.specs.Derives.{Legal, legal_empty}
 use Rattle.pts_rules.specs.Meter.{Units, left}
 use Rattle.pts_reduce.specs.Given.{Later}
+use Rattle.pts_check.specs.Entered.{declared_entries, MayFollow}
 use Rattle.pts_reduce_cost.specs.Costs.{Globals}
 use Rattle.pts_module_file.specs.declared.file.ModuleFile.{ModuleFile}
 use Rattle.pts_module_file.specs.declared.fault.FileFault.{FileFault}
@@ -18,12 +19,12 @@ use Rattle.pts_declare.specs.Answered.{fault_text}
 use Rattle.pts_batch.specs.declared.world.Batch.{Batch}
 use Rattle.pts_batch.specs.Loading.{Loaded, entered, Loads}
 use Rattle.pts_batch.specs.Batches.{BatchAnswer, BatchAnswers, bad_file, not_built, loaded, Batches, file_is_bad, line_is_not_built, file_is_loaded, refusal, at_line, with_entries, answer_loaded, unbuilt_line}
-use Rattle.pts_batch.specs.Evidence.{declared_entries, MayFollow, numbered}
+use Rattle.pts_batch.specs.Evidence.{numbered}
 use Rattle.pts_batch.specs.Shown.{Evident}
 use Rattle.pts_batch.specs.Calls.{RefusedAt, Stops, AnswersBadFile, AnswersFault}
 use Rattle.pts_batch.specs.declared.loading.LoadFault.{LoadFault}
 use Rattle.pts_batch.specs.declared.loading.LoadFault.TheVariants as load
-use Rattle.pts_batch.proofs.Follow.{follow_legal}
+use Rattle.pts_check.proofs.Entering.{follow_legal}
 use Rattle.pts_batch.proofs.Short.{statements_seen}
 
 pub both_ok : {T E : Type 0} (r : Result T E) (P Q R : T → Type 0) → ((x : T) → P x → Q x → R x) → IfOk r P → IfOk r Q → IfOk r R

@@ -1,13 +1,7 @@
 -- Declarations that enter one after another.
-use Rattle.std.proofs.Common.{◌≡◌, ℕ, List, [], ◌∷◌, ◌++◌, refl, sym, ap, ◌∙◌, subst}
-use Rattle.std.specs.Prelude.{option_map}
-use Rattle.std.proofs.lemmas.List.{append-nil, append_assoc, map-append}
+use Rattle.std.proofs.Common.{◌≡◌, ℕ, List, [], ◌∷◌, ◌++◌, refl, sym, subst}
 use Rattle.pts_names.specs.Name.{Name}
 use Rattle.pts_ctx.specs.System.{Specification}
-use Rattle.pts_ctx.specs.Front.{Fresh, bare_front, bare_global}
-use Rattle.pts_rules.specs.Derives.{Legal}
-use Rattle.pts_rules.proofs.Sound.{conclusion_legal}
-use Rattle.pts_rules.proofs.HeadBare.{find_bare}
 use Rattle.pts_record.specs.declared.declaration.Declaration.{Declaration}
 use Rattle.pts_check.specs.Entered.{declared}
 use Rattle.pts_reduce_cost.specs.Costs.{Globals}
@@ -17,24 +11,9 @@ use Rattle.pts_declare.specs.declared.fault.DeclareFault.{DeclareFault}
 use Rattle.pts_declare.specs.declared.fault.DeclareFault.TheVariants.{Read, Taken, Flawed, Spent, Deep, Memory}
 use Rattle.pts_declare.specs.Statements.{Statement}
 use Rattle.pts_declare.specs.Declaring.{Declares}
-use Rattle.pts_declare.specs.Answered.{MayEnter, NotDeclared}
+use Rattle.pts_declare.specs.Answered.{NotDeclared}
 use Rattle.pts_batch.specs.Loading.{Loaded, spent, Loads, statement_enters, statement_stops, statement_is_too_dear}
-use Rattle.pts_batch.specs.Evidence.{declared_entries, MayFollow}
 use Rattle.pts_batch.specs.Calls.{RefusedAt}
-
-pub follow_more : (S : Specification) (ds : List Declaration) (G : Globals) (d : Declaration) → MayFollow S G ds → MayEnter S (G ++ declared_entries ds) d → MayFollow S G (ds ++ d ∷ [])
-follow_more S [] G d h m = (subst (λ H. MayEnter S H d) (append-nil G) m, tt)
-follow_more S (e ∷ ds) G d h m = (h.0, follow_more S ds (G ++ declared e ∷ []) d h.1 (subst (λ H. MayEnter S H d) (sym (append_assoc G (declared e ∷ []) (declared_entries ds))) m))
-
-fresh_bare : (x : Name) (G : Globals) → Fresh x G → Fresh x (bare_front G)
-fresh_bare x G f = find_bare x G ∙ ap (option_map bare_global) f
-
-enter_legal : (S : Specification) (G : Globals) (d : Declaration) → MayEnter S G d → Legal S (bare_front G) → Legal S (bare_front (G ++ declared d ∷ []))
-enter_legal S G d m l = subst (Legal S) (sym (map-append bare_global G (declared d ∷ []))) (conclusion_legal S (bare_front G) d.proof (bare_global (declared d)) l m.valid (fresh_bare d.name G m.fresh) m.concluded)
-
-pub follow_legal : (S : Specification) (ds : List Declaration) (G : Globals) → MayFollow S G ds → Legal S (bare_front G) → Legal S (bare_front (G ++ declared_entries ds))
-follow_legal S [] G h l = subst (λ H. Legal S (bare_front H)) (sym (append-nil G)) l
-follow_legal S (d ∷ ds) G h l = subst (λ H. Legal S (bare_front H)) (append_assoc G (declared d ∷ []) (declared_entries ds)) (follow_legal S ds (G ++ declared d ∷ []) h.1 (enter_legal S G d h.0 l))
 
 -- a statement of which nothing but this comes
 module _ (S : Specification) (M : Name) (G : Globals) (n : ℕ) (d : Statement) (ds : List (ℕ × Statement)) (b : ℕ) where

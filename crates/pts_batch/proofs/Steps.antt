@@ -4,7 +4,7 @@ use Rattle.std.proofs.lemmas.List.{map-append}
 use Rattle.pts_names.specs.Name.{Name}
 use Rattle.pts_ctx.specs.System.{Specification}
 use Rattle.pts_record.specs.declared.declaration.Declaration.{Declaration}
-use Rattle.pts_check.specs.Entered.{declared}
+use Rattle.pts_check.specs.Entered.{declared, declared_entries, MayFollow, MayEnter}
 use Rattle.pts_reduce_cost.specs.Costs.{Globals}
 use Rattle.pts_reduce_cost.specs.Laws.{WithinBudget}
 use Rattle.pts_infer_cost.specs.Typing.{comes}
@@ -12,12 +12,13 @@ use Rattle.pts_module_file.specs.declared.file.ModuleLine.{ModuleLine}
 use Rattle.pts_declare.specs.declared.fault.DeclareFault.{DeclareFault}
 use Rattle.pts_declare.specs.declared.fault.DeclareFault.TheVariants.{Read, Taken, Flawed, Spent, Deep, Memory}
 use Rattle.pts_declare.specs.Declaring.{Declares}
-use Rattle.pts_declare.specs.Answered.{MayEnter, NotDeclared}
+use Rattle.pts_declare.specs.Answered.{NotDeclared}
 use Rattle.pts_batch.specs.Loading.{Loaded, entered, Loads, no_statement}
-use Rattle.pts_batch.specs.Evidence.{declared_entries, MayFollow, numbered, statement_of}
+use Rattle.pts_batch.specs.Evidence.{numbered, statement_of}
 use Rattle.pts_batch.specs.declared.loading.LoadFault.{LoadFault}
 use Rattle.pts_batch.specs.Calls.{RefusedAt, Stops, IsRefusedAt}
-use Rattle.pts_batch.proofs.Follow.{follow_more, goes_on, ends_at, passed_on}
+use Rattle.pts_check.proofs.Entering.{follow_more}
+use Rattle.pts_batch.proofs.Follow.{goes_on, ends_at, passed_on}
 
 -- what is so of the lines ls, over the front G and on b units, is so of all
 module _ (S : Specification) (M : Name) (all : ℕ → Loaded → ℕ → Type 0) (c : ℕ) (G : Globals) (b : ℕ) (ls : List (ℕ × ModuleLine)) (f : (o : Loaded) (k : ℕ) → Loads S M G (map numbered ls) b o k → all c o k) where

@@ -3,9 +3,9 @@ use Rattle.std.specs.Prelude.{◌≡◌, []}
 use Rattle.pts_ctx.specs.System.{Specification}
 use Rattle.pts_ctx.specs.Front.{bare_front}
 use Rattle.pts_rules.specs.Derives.{Legal}
+use Rattle.pts_check.specs.Entered.{declared_entries, MayFollow}
 use Rattle.pts_batch.specs.declared.world.Batch.{Batch}
 use Rattle.pts_batch.specs.Batches.{BatchAnswer}
-use Rattle.pts_batch.specs.Evidence.{declared_entries, MayFollow}
 
 abbrev pub answer_seen : Batch → BatchAnswer
 answer_seen r = record { lines = r.lines; entries = r.context.entries; labels = r.context.labels; refused = r.refused }

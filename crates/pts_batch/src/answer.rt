@@ -4,12 +4,12 @@ ghost use Rattle.std.specs.Prelude.{◌≡◌, true, ◌+◌, ◌++◌, ◌∷�
 ghost use Rattle.std.specs.Fmt.{decimal};
 ghost use Rattle.pts_ctx.specs.Front.{bare_front};
 ghost use Rattle.pts_rules.specs.Derives.{Legal};
+ghost use Rattle.pts_check.specs.Entered.{declared_entries, MayFollow};
 ghost use Rattle.pts_module_file.specs.File.{AllShort, module_file_of, module_of};
 ghost use Rattle.pts_names.specs.Name.{is_short};
 ghost use Rattle.pts_declare.specs.Answered.{fault_text};
 ghost use Rattle.pts_batch.specs.Batches.{BatchAnswers, refusal, bad_line, at_line, unbuilt_line, with_entries};
 ghost use Rattle.pts_batch.specs.Calls.{AnswersBadFile, AnswersFault};
-ghost use Rattle.pts_batch.specs.Evidence.{declared_entries, MayFollow};
 ghost use Rattle.pts_batch.specs.Shown.{answer_seen, Evident};
 
 use crate::lines::entry_lines;

@@ -1,9 +1,8 @@
 // The lines of declarations.
 
 ghost use Rattle.std.specs.Prelude.{◌≡◌, map, IfOk, string_bytes};
-ghost use Rattle.pts_check.specs.Entered.{declared};
+ghost use Rattle.pts_check.specs.Entered.{declared, declared_entries};
 ghost use Rattle.pts_batch.specs.Batches.{entry_line};
-ghost use Rattle.pts_batch.specs.Evidence.{declared_entries};
 
 use pts_ctx::System;
 use pts_names::Text;

@@ -8,12 +8,12 @@ ghost use Rattle.pts_rules.specs.Meter.{left};
 ghost use Rattle.pts_reduce.specs.Given.{Later};
 ghost use Rattle.pts_reduce_cost.specs.Laws.{WithinBudget};
 ghost use Rattle.pts_infer_cost.specs.Typing.{comes};
-ghost use Rattle.pts_check.specs.Entered.{declared};
+ghost use Rattle.pts_check.specs.Entered.{MayEnter, MayFollow, declared, declared_entries};
 ghost use Rattle.pts_declare.specs.Statements.{name_of};
 ghost use Rattle.pts_names.specs.Name.{is_short};
 ghost use Rattle.pts_declare.specs.Declaring.{Declares};
-ghost use Rattle.pts_declare.specs.Answered.{MayEnter, NotDeclared};
-ghost use Rattle.pts_batch.specs.Evidence.{declared_entries, MayFollow, statement_of, numbered, AllDeclarable};
+ghost use Rattle.pts_declare.specs.Answered.{NotDeclared};
+ghost use Rattle.pts_batch.specs.Evidence.{statement_of, numbered, AllDeclarable};
 ghost use Rattle.pts_batch.specs.Loading.{Loads, entered};
 ghost use Rattle.pts_batch.specs.Calls.{Stops, IsRefusedAt};
 

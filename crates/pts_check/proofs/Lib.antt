@@ -3,3 +3,4 @@ pub mod Found
 pub mod Stepped
 pub mod Faulted
 pub mod Limited
+pub mod Entering

@@ -1,11 +1,11 @@
 // Verdicts on records, and what records conclude.
 
-ghost use Rattle.std.specs.Prelude.{◌≡◌, IsTrue, true};
+ghost use Rattle.std.specs.Prelude.{◌≡◌, IsTrue, true, None};
 ghost use Rattle.pts_ctx.specs.Seen.{global_within};
 ghost use Rattle.pts_ctx.specs.Front.{bare_front};
 ghost use Rattle.pts_rules.specs.Valid.{first_fault, concludes};
 ghost use Rattle.pts_check.specs.Verdicts.{verdict_of};
-ghost use Rattle.pts_check.specs.Entered.{declared, bare_declared};
+ghost use Rattle.pts_check.specs.Entered.{declared, bare_declared, declaration_fault};
 
 use crate::forms::node_fault;
 use crate::nodes::{sort_in, terms_of};
@@ -68,5 +68,25 @@ pub fn concludes(front: &Context, declaration: &Declaration) -> bool
         None => {
             proof.is_term(terms.subject, &declaration.ty) && sort_in(proof, terms.claim).is_some()
         }
+    }
+}
+
+/// What is wrong with a declaration over a front: the first fault of its record, with the node; or `Conclusion` at the
+/// number of nodes, where the record is valid and does not conclude it. It takes no memory, and goes over each node once.
+///
+/// The terms of a declaration without a fault are within limits. Whether its name is new is not asked.
+#[tactic(auto, unfolding(crate::specs::Entered::declaration_fault))]
+pub fn declaration_fault(
+    system: &System,
+    front: &Context,
+    declaration: &Declaration,
+) -> Option<(usize, Why)>
+    ensures fault { result ≡ declaration_fault system.now front.now.entries declaration.now.proof (declared declaration.now) }
+    ensures within { result ≡ None → global_within (declared declaration.now) ≡ true }
+{
+    match check(system, front, &declaration.proof) {
+        Verdict::Faulty { node, why } => Some((node, why)),
+        Verdict::Valid if concludes(front, declaration) => None,
+        Verdict::Valid => Some((declaration.proof.nodes(), Why::Conclusion)),
     }
 }

@@ -1,13 +1,8 @@
 -- What a refused statement is answered with.
-use Rattle.std.specs.Prelude.{◌≡◌, ℕ, List, true, Some, Result, Ok, Err, codes}
+use Rattle.std.specs.Prelude.{◌≡◌, ℕ, List, Some, Result, Ok, Err, codes}
 use Rattle.pts_names.specs.Name.{Name}
 use Rattle.pts_terms.specs.Seen.{named}
-use Rattle.pts_ctx.specs.System.{Specification}
-use Rattle.pts_ctx.specs.Front.{Fresh, bare_front}
-use Rattle.pts_ctx.specs.Seen.{global_within, place_of}
-use Rattle.pts_record.specs.declared.declaration.Declaration.{Declaration}
-use Rattle.pts_rules.specs.Valid.{IsValid, concludes}
-use Rattle.pts_check.specs.Entered.{declared, bare_declared}
+use Rattle.pts_ctx.specs.Seen.{place_of}
 use Rattle.pts_reduce_cost.specs.Costs.{Globals}
 use Rattle.pts_reduce_cost.specs.Laws.{WithinBudget, AboveBudget}
 use Rattle.pts_infer_cost.specs.Typing.{by_flaw, by_limits, stops}
@@ -38,14 +33,6 @@ NotDeclared costs (Flawed part f) b k = WithinBudget costs b (stops (by_flaw (fl
 NotDeclared costs Spent b k = AboveBudget costs b × (k ≡ 0)
 NotDeclared costs Deep b k = WithinBudget costs b (stops by_limits) k
 NotDeclared costs Memory b k = Unit {0}
-
--- A declaration that may stand behind the front: its name is new, its terms are within limits, and its record is valid
--- and concludes it.
-pub record MayEnter (S : Specification) (G : Globals) (d : Declaration) : Type 0 where
-  pub fresh : Fresh d.name G
-  pub within : global_within (declared d) ≡ true
-  pub valid : IsValid S (bare_front G) d.proof
-  pub concluded : concludes d.proof (bare_declared d) ≡ true
 
 -- What is stated with the program's terms.
 abbrev pub stated_of : TheStated → Stated

@@ -8,11 +8,11 @@ ghost use Rattle.pts_rules.specs.Meter.{left};
 ghost use Rattle.pts_rules.specs.Valid.{concludes};
 ghost use Rattle.pts_reduce_cost.specs.Laws.{WithinBudget};
 ghost use Rattle.pts_infer_cost.specs.Typing.{comes};
-ghost use Rattle.pts_check.specs.Entered.{declared, bare_declared};
+ghost use Rattle.pts_check.specs.Entered.{declared, bare_declared, MayEnter};
 ghost use Rattle.pts_reduce.specs.Given.{Later};
 ghost use Rattle.pts_declare.specs.Statements.{assumption, definition, typed_definition};
 ghost use Rattle.pts_declare.specs.Declaring.{Checks};
-ghost use Rattle.pts_declare.specs.Answered.{MayEnter, NotDeclared, stated_of, told_in, told_of};
+ghost use Rattle.pts_declare.specs.Answered.{NotDeclared, stated_of, told_in, told_of};
 
 use crate::fault::DeclareFault;
 use crate::stated::Stated;

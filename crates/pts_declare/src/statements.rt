@@ -9,11 +9,11 @@ ghost use Rattle.pts_parser.specs.Resolution.{Answers};
 ghost use Rattle.pts_rules.specs.Meter.{left};
 ghost use Rattle.pts_reduce_cost.specs.Laws.{WithinBudget};
 ghost use Rattle.pts_infer_cost.specs.Typing.{comes};
-ghost use Rattle.pts_check.specs.Entered.{declared};
+ghost use Rattle.pts_check.specs.Entered.{declared, MayEnter};
 ghost use Rattle.pts_reduce.specs.Given.{Later};
 ghost use Rattle.pts_declare.specs.Statements.{Statement, assumes, defines, name_of, stated, visible};
 ghost use Rattle.pts_declare.specs.Declaring.{Declares};
-ghost use Rattle.pts_declare.specs.Answered.{MayEnter, NotDeclared, NotFree, stated_of, told_unread, AnswersStated};
+ghost use Rattle.pts_declare.specs.Answered.{NotDeclared, NotFree, stated_of, told_unread, AnswersStated};
 
 use crate::checking::check;
 use crate::fault::DeclareFault;

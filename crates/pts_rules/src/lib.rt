@@ -9,9 +9,10 @@ mod why;
 
 pub use laws::{
     conclusions_are_legal, head_steps_are_steps, judgements_are_scoped, judgements_are_thinned,
-    longer_fronts_have_entries, prefixes_are_legal, valid_records_are_sound,
+    longer_fronts_have_entries, prefixes_are_legal, thin, valid_records_are_sound,
     valid_records_are_thinned,
 };
 pub use meter::Meter;
-pub use pts_record::{Boxed, Form, Measure, Name, Node, Shape, Sort, Term};
+pub use pts_ctx::{Context, System};
+pub use pts_record::{Boxed, Form, Measure, Name, Node, Record, Shape, Sort, Term};
 pub use why::Why;

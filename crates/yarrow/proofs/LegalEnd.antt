@@ -5,27 +5,23 @@ use Rattle.std.specs.Option.{option_map}
 use Rattle.std.proofs.lemmas.List.{map-append}
 use Rattle.pts_names.specs.Name.{Name}
 use Rattle.pts_ctx.specs.System.{Specification}
-use Rattle.pts_ctx.specs.Front.{Global, find, Fresh, bare_global, bare_front}
+use Rattle.pts_ctx.specs.Front.{Global, find, bare_global, bare_front}
 use Rattle.pts_ctx.specs.Seen.{place_of}
 use Rattle.pts_rules.specs.declared.why.Why.{Why}
 use Rattle.pts_rules.specs.Derives.{Legal, legal_empty}
-use Rattle.pts_rules.specs.Valid.{first_fault, concludes}
 use Rattle.pts_rules.proofs.Sound.{conclusion_legal}
-use Rattle.pts_rules.proofs.HeadBare.{find_bare}
+use Rattle.pts_check.proofs.Entering.{without_fault, fresh_bare}
 use Rattle.pts_certificate.specs.declared.fault.CertificateFault.{CertificateFault}
 use Rattle.pts_certificate.specs.Certificate.{Declared, Written, certificate_of}
 use Rattle.yarrow.specs.declared.enter.Refusal.{Refusal}
 use Rattle.yarrow.specs.declared.enter.Refusal.TheVariants.{Full, Faulty}
-use Rattle.yarrow.specs.Enter.{Entered, entry_of, unless_concluded, or_conclusion, declaration_fault, or_full, or_clash, refusal_of, or_on, enter_all}
+use Rattle.yarrow.specs.Enter.{Entered, entry_of, or_full, or_clash, refusal_of, or_on, enter_all}
 use Rattle.yarrow.specs.Answers.{answer_by, answer_read, answer_to, IsLegalBy}
 
 no_place : (x : Name) (G : List (Global Name)) → place_of x G ≡ None → find x G ≡ None
 unfolding find
 no_place x [] h = refl
 no_place x (e ∷ G) h = grind (arith, no_place x G)
-
-fresh_bare : (x : Name) (G : List (Global Name)) → place_of x G ≡ None → Fresh x (bare_front G)
-fresh_bare x G h = find_bare x G ∙ ap (option_map bare_global) (no_place x G h)
 
 -- what a declaration is that is not refused
 clash_none : (x : Name) (o : Option ℕ) (w : Option Refusal) → or_clash x o w ≡ None → (o ≡ None) × (w ≡ None)
@@ -43,21 +39,13 @@ map_none : (x : Name) (o : Option (ℕ × Why)) → option_map (λ f. Faulty x f
 map_none x None h = refl
 map_none x (Some f) h = cc
 
-concluded_by : (d : Declared) (b : Bool) → unless_concluded d b ≡ None → b ≡ true
-concluded_by d true p = refl
-concluded_by d false p = cc
-
-conclusion_none : (d : Declared) (o : Option (ℕ × Why)) → or_conclusion d o ≡ None → (o ≡ None) × (concludes d.proof (bare_global (entry_of d)) ≡ true)
-conclusion_none d (Some f) h = cc
-conclusion_none d None h = (refl, concluded_by d (concludes d.proof (bare_global (entry_of d))) h)
-
 entered_legal : (S : Specification) (G : List (Global Name)) (d : Declared) → refusal_of S G d ≡ None → Legal S (bare_front G) → Legal S (bare_front (G ++ entry_of d ∷ []))
-unfolding refusal_of declaration_fault
+unfolding refusal_of
 entered_legal S G d h l =
     let a = clash_none d.name (place_of d.name G) _ h in
     let b = map_none d.name _ (full_none G _ a.1) in
-    let c = conclusion_none d (first_fault S (bare_front G) d.proof) b in
-    subst (Legal S) (sym (map-append bare_global G (entry_of d ∷ []))) (conclusion_legal S (bare_front G) d.proof (bare_global (entry_of d)) l c.0 (fresh_bare d.name G a.0) c.1)
+    let c = without_fault S G d.proof (entry_of d) b in
+    subst (Legal S) (sym (map-append bare_global G (entry_of d ∷ []))) (conclusion_legal S (bare_front G) d.proof (bare_global (entry_of d)) l c.0 (fresh_bare d.name G (no_place d.name G a.0)) c.1)
 
 by_refusal : (S : Specification) (G : List (Global Name)) (d : Declared) (later : Entered) → Legal S (bare_front G) → (o : Option Refusal) → refusal_of S G d ≡ o → (Legal S (bare_front (G ++ entry_of d ∷ [])) → Legal S (bare_front later.entries)) → Legal S (bare_front (or_on G o later).entries)
 by_refusal S G d later l None e next = next (entered_legal S G d e l)

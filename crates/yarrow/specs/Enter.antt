@@ -1,32 +1,17 @@
 -- Declarations enter a context in order, until the first that is refused.
-use Rattle.std.specs.Prelude.{ℕ, List, [], ◌∷◌, ◌++◌, length, nat_le, Bool, true, false, Option, Some, None, if◌then◌else◌}
+use Rattle.std.specs.Prelude.{ℕ, List, [], ◌∷◌, ◌++◌, length, nat_le, Option, Some, None, if◌then◌else◌}
 use Rattle.std.specs.Option.{option_map}
 use Rattle.pts_names.specs.Name.{Name}
 use Rattle.pts_ctx.specs.System.{Specification}
-use Rattle.pts_ctx.specs.Front.{Global, bare_global, bare_front}
+use Rattle.pts_ctx.specs.Front.{Global}
 use Rattle.pts_ctx.specs.Seen.{place_of}
-use Rattle.pts_rules.specs.declared.why.Why.{Why}
-use Rattle.pts_rules.specs.declared.why.Why.TheVariants.{Conclusion}
-use Rattle.pts_rules.specs.Valid.{first_fault, concludes}
+use Rattle.pts_check.specs.Entered.{declaration_fault}
 use Rattle.pts_certificate.specs.Certificate.{Declared}
 use Rattle.yarrow.specs.declared.enter.Refusal.{Refusal}
 use Rattle.yarrow.specs.declared.enter.Refusal.TheVariants.{Clash, Full, Faulty}
 
 abbrev pub entry_of : Declared → Global Name
 entry_of d = record { name = d.name; body = d.body; type = d.type }
-
--- A valid record that does not conclude its declaration has its fault behind its last node.
-abbrev pub unless_concluded : Declared → Bool → Option (ℕ × Why)
-unless_concluded d true = None
-unless_concluded d false = Some (length d.proof.nodes, Conclusion)
-
-abbrev pub or_conclusion : Declared → Option (ℕ × Why) → Option (ℕ × Why)
-or_conclusion d (Some f) = Some f
-or_conclusion d None = unless_concluded d (concludes d.proof (bare_global (entry_of d)))
-
--- The fault of a declaration over the entries before it.
-unfoldable pub declaration_fault : Specification → List (Global Name) → Declared → Option (ℕ × Why)
-declaration_fault S G d = or_conclusion d (first_fault S (bare_front G) d.proof)
 
 -- A context has room for 200,000 entries.
 abbrev pub or_full : List (Global Name) → Option Refusal → Option Refusal
@@ -40,7 +25,7 @@ or_clash x (Some k) later = Some (Clash x k)
 unfoldable pub refusal_of : Specification → List (Global Name) → Declared → Option Refusal
 refusal_of S G d =
     or_clash d.name (place_of d.name G)
-    (or_full G (option_map (λ f. Faulty d.name f.0 f.1) (declaration_fault S G d)))
+    (or_full G (option_map (λ f. Faulty d.name f.0 f.1) (declaration_fault S G d.proof (entry_of d))))
 
 -- The entries that stand at the end, and the first refusal.
 pub record Entered : Type 0 where

@@ -4,9 +4,9 @@ ghost use Rattle.std.specs.Prelude.{◌≡◌, ◌<◌, ◌≤◌, ◌+◌, ◌+
 ghost use Rattle.pts_ctx.specs.Front.{Fresh};
 ghost use Rattle.pts_ctx.specs.Seen.{global_within};
 ghost use Rattle.pts_certificate.specs.Seen.{declared_of};
-ghost use Rattle.yarrow.specs.Enter.{entry_of, declaration_fault, refusal_of, enter_all};
+ghost use Rattle.yarrow.specs.Enter.{entry_of, refusal_of, enter_all};
 
-use pts_check::{Verdict, check, concludes};
+use pts_check::declaration_fault;
 use pts_ctx::{Context, Entry, ROOM, System};
 use pts_names::Name;
 use pts_record::Declaration;
@@ -98,27 +98,5 @@ fn refusal_of(
     match declaration_fault(system, context, declaration) {
         Some(fault) => Ok(Some(Refusal::Faulty(declaration.name.copy()?, fault.0, fault.1))),
         None => Ok(None),
-    }
-}
-
-// The fault of a declaration.
-#[tactic(auto, unfolding(crate::specs::Enter::declaration_fault))]
-fn declaration_fault(
-    system: &System,
-    context: &Context,
-    declaration: &Declaration,
-) -> Option<(usize, Why)>
-    ensures fault { result ≡ declaration_fault system.now context.now.entries (declared_of declaration.now) }
-    ensures within { result ≡ None → global_within (entry_of (declared_of declaration.now)) ≡ true }
-{
-    match check(system, context, &declaration.proof) {
-        Verdict::Faulty { node, why } => Some((node, why)),
-        Verdict::Valid => {
-            if concludes(context, declaration) {
-                None
-            } else {
-                Some((declaration.proof.nodes(), Why::Conclusion))
-            }
-        }
     }
 }

@@ -2,7 +2,8 @@ use Rattle.std.proofs.Common.{◌≡◌, ◌≤◌, ℕ, [], ◌∷◌, length, 
 use Rattle.std.specs.Vec.Iter.{into_iter_items, into_iter_len}
 use Rattle.pts_rules.specs.Meter.{left}
 use Rattle.pts_reduce.specs.Given.{Later}
-use Rattle.pts_batch.specs.Evidence.{declared_entries, MayFollow, numbered, AllDeclarable}
+use Rattle.pts_check.specs.Entered.{declared_entries, MayFollow}
+use Rattle.pts_batch.specs.Evidence.{numbered, AllDeclarable}
 use Rattle.pts_batch.specs.Loading.{Loaded, Loads}
 use Rattle.pts_batch.proofs.loading.load.Given as goal
 
