@@ -1,4 +1,5 @@
 pub mod Counts
+pub mod States
 pub mod Calls
 pub mod Fakes
 pub mod Files

@@ -11,7 +11,7 @@ use std::fs;
 use std::io::ErrorKind;
 use std::rt::Files;
 
-/// The files of the current folder as a library. It tells nothing of them.
+/// The files of the current folder as a library. It shows nothing of them.
 #[derive(Drop)]
 pub struct FolderLibrary<R> {
     rt: R,
@@ -33,13 +33,7 @@ impl<R> FolderLibrary<R> {
 }
 
 impl<R: Files> Library for FolderLibrary<R> {
-    ghost faults = { λ s. s.faults };
-
-    ghost missing = { λ s. s.missing };
-
-    ghost too_long = { λ s. s.too_long };
-
-    ghost files = { λ _. None };
+    ghost state = { λ s. record { files = None; missing = s.missing; too_long = s.too_long; faults = s.faults } };
 
     /// A file that can't be opened for another cause than that it isn't there is a failure.
     fn read(&mut self, alloc: Global, name: &str) -> Result<Found, ReadFail> {

@@ -1,5 +1,5 @@
 //! The outside as the program sees it: where bytes come from, and where they go.
-//! Promises that a failure is answered only where a count of faults rose, and that bytes move unchanged where that is told.
+//! Promises that a failure is answered only where a count of faults rose, and that bytes move unchanged where they are shown.
 //! Stands on no other crate of this repository; `thiserror` derives its error types.
 #![tactic(auto)]
 

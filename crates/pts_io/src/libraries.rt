@@ -1,5 +1,6 @@
-ghost use Rattle.std.specs.Prelude.{◌≡◌, ◌≢◌, ℕ, ◌≤◌, Option, List, Err, IfOk, IfSome};
+ghost use Rattle.std.specs.Prelude.{◌≡◌, ◌≢◌, ◌≤◌, Err, IfOk, IfSome};
 ghost use Rattle.pts_io.specs.Counts.{Rose};
+ghost use Rattle.pts_io.specs.States.{LibraryState};
 ghost use Rattle.pts_io.specs.Files.{file_of, missing_after, too_long_after, IsWithin, Holds};
 
 use crate::faults::ReadFail;
@@ -21,31 +22,22 @@ pub enum Found {
 
 /// Where files are found by their names.
 pub trait Library {
-    // How many faults there were.
-    ghost faults: { Self → ℕ };
+    // What it shows: its files, where they are shown, and its counts.
+    ghost state: { Self → LibraryState };
 
-    // How many answers were `NoFile`.
-    ghost missing: { Self → ℕ };
-
-    // How many answers were `TooLong`.
-    ghost too_long: { Self → ℕ };
-
-    // The files, where they are told: names with bytes, where the first of a name counts.
-    ghost files: { Self → Option (List (List ℕ × List ℕ)) };
-
-    /// The file of this name. No call changes the files, or whether they are told.
+    /// The file of this name. No call changes the files, or whether they are shown.
     ///
     /// # Errors
     ///
     /// `Failed` only where the count of faults rose, and `Memory`.
     fn read(&mut self, alloc: Global, name: &str) -> Result<Found, ReadFail>
-        ensures never_falls { faults self.old ≤ faults self.new }
-        ensures failed { result ≡ Err ReadFail.Failed → Rose (faults self.old) (faults self.new) }
-        ensures faults { result ≢ Err ReadFail.Failed → faults self.new ≡ faults self.old }
-        ensures missing { missing self.new ≡ missing_after (missing self.old) result }
-        ensures too_long { too_long self.new ≡ too_long_after (too_long self.old) result }
+        ensures never_falls { (state self.old).faults ≤ (state self.new).faults }
+        ensures failed { result ≡ Err ReadFail.Failed → Rose (state self.old).faults (state self.new).faults }
+        ensures faults { result ≢ Err ReadFail.Failed → (state self.new).faults ≡ (state self.old).faults }
+        ensures missing { (state self.new).missing ≡ missing_after (state self.old).missing result }
+        ensures too_long { (state self.new).too_long ≡ too_long_after (state self.old).too_long result }
 
-        ensures files { files self.new ≡ files self.old }
+        ensures files { (state self.new).files ≡ (state self.old).files }
         ensures within { IfOk result IsWithin }
-        ensures found { IfOk result (λ found. IfSome (files self.old) (λ files. Holds (file_of files name.now) found)) };
+        ensures found { IfOk result (λ found. IfSome (state self.old).files (λ files. Holds (file_of files name.now) found)) };
 }

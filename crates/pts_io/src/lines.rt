@@ -81,23 +81,23 @@ impl LineReader {
     /// `Failed` only where the source's count of faults rose, and `Memory`. What was taken is then
     /// held.
     pub fn next<S: Source>(&mut self, source: &mut S) -> Result<Input, ReadFail>
-        ensures never_falls { S.faults source.old ≤ S.faults source.new }
-        ensures failed { result ≡ Err ReadFail.Failed → Rose (S.faults source.old) (S.faults source.new) }
-        ensures faults { result ≢ Err ReadFail.Failed → S.faults source.new ≡ S.faults source.old }
+        ensures never_falls { (S.state source.old).faults ≤ (S.state source.new).faults }
+        ensures failed { result ≡ Err ReadFail.Failed → Rose (S.state source.old).faults (S.state source.new).faults }
+        ensures faults { result ≢ Err ReadFail.Failed → (S.state source.new).faults ≡ (S.state source.old).faults }
 
         ensures grows { self.old.taken ≤ self.new.taken }
-        ensures given { S.given source.new ≡ raised (S.given source.old) (self.new.taken - self.old.taken) }
+        ensures given { (S.state source.new).given ≡ raised (S.state source.old).given (self.new.taken - self.old.taken) }
         ensures limit { self.new.limit ≡ self.old.limit }
         ensures most { self.new.taken ≤ self.new.limit + 1 }
         ensures too_much { (result ≡ Ok Input.TooMuch) ↔ (self.new.limit < self.new.taken) }
         ensures waits { Contains self.old.held 10 ⊎ (self.old.limit < self.old.taken) → source.new ≡ source.old }
         ensures part { result ≡ Err ReadFail.Failed → ¬ Contains self.new.held 10 }
 
-        ensures ahead { prepend_known self.new.held (S.left source.new)
-            ≡ option_map (behind result) (prepend_known self.old.held (S.left source.old)) }
+        ensures ahead { prepend_known self.new.held (S.state source.new).left
+            ≡ option_map (behind result) (prepend_known self.old.held (S.state source.old).left) }
         ensures answer { self.old.taken ≤ self.old.limit → IfOk result (λ input.
-            IfSome (prepend_known self.old.held (S.left source.old)) (λ bytes. IsNext (within self.old) bytes input)) }
-        ensures room { IfSome (prepend_known self.old.held (S.left source.old))
+            IfSome (prepend_known self.old.held (S.state source.old).left) (λ bytes. IsNext (within self.old) bytes input)) }
+        ensures room { IfSome (prepend_known self.old.held (S.state source.old).left)
             (λ bytes. within self.new + length bytes ≡ within self.old + length (behind result bytes)) }
     {
         if self.is_over {
@@ -113,22 +113,22 @@ impl LineReader {
     fn read_line<S: Source>(&mut self, source: &mut S) -> Result<Input, ReadFail>
         requires open { self.old.taken ≤ self.old.limit }
         requires no_line { NoFeed self.old.held }
-        ensures never_falls { S.faults source.old ≤ S.faults source.new }
-        ensures failed { result ≡ Err ReadFail.Failed → Rose (S.faults source.old) (S.faults source.new) }
-        ensures faults { result ≢ Err ReadFail.Failed → S.faults source.new ≡ S.faults source.old }
+        ensures never_falls { (S.state source.old).faults ≤ (S.state source.new).faults }
+        ensures failed { result ≡ Err ReadFail.Failed → Rose (S.state source.old).faults (S.state source.new).faults }
+        ensures faults { result ≢ Err ReadFail.Failed → (S.state source.new).faults ≡ (S.state source.old).faults }
 
         ensures grows { self.old.taken ≤ self.new.taken }
-        ensures given { S.given source.new ≡ raised (S.given source.old) (self.new.taken - self.old.taken) }
+        ensures given { (S.state source.new).given ≡ raised (S.state source.old).given (self.new.taken - self.old.taken) }
         ensures limit { self.new.limit ≡ self.old.limit }
         ensures most { self.new.taken ≤ self.new.limit + 1 }
         ensures too_much { (result ≡ Ok Input.TooMuch) ↔ (self.new.limit < self.new.taken) }
         ensures part { result ≡ Err ReadFail.Failed → NoFeed self.new.held }
 
-        ensures ahead { prepend_known self.new.held (S.left source.new)
-            ≡ option_map (behind result) (prepend_known self.old.held (S.left source.old)) }
+        ensures ahead { prepend_known self.new.held (S.state source.new).left
+            ≡ option_map (behind result) (prepend_known self.old.held (S.state source.old).left) }
         ensures answer { IfOk result (λ input.
-            IfSome (prepend_known self.old.held (S.left source.old)) (λ bytes. IsNext (within self.old) bytes input)) }
-        ensures room { IfSome (prepend_known self.old.held (S.left source.old))
+            IfSome (prepend_known self.old.held (S.state source.old).left) (λ bytes. IsNext (within self.old) bytes input)) }
+        ensures room { IfSome (prepend_known self.old.held (S.state source.old).left)
             (λ bytes. within self.new + length bytes ≡ within self.old + length (behind result bytes)) }
     {
         'turns: loop {
@@ -224,11 +224,11 @@ impl LineReader {
     // Takes once more, and holds what came.
     fn fill<S: Source>(&mut self, source: &mut S) -> Result<usize, ReadFail>
         requires open { self.old.taken ≤ self.old.limit }
-        ensures never_falls { S.faults source.old ≤ S.faults source.new }
-        ensures failed { result ≡ Err ReadFail.Failed → Rose (S.faults source.old) (S.faults source.new) }
-        ensures faults { result ≢ Err ReadFail.Failed → S.faults source.new ≡ S.faults source.old }
+        ensures never_falls { (S.state source.old).faults ≤ (S.state source.new).faults }
+        ensures failed { result ≡ Err ReadFail.Failed → Rose (S.state source.old).faults (S.state source.new).faults }
+        ensures faults { result ≢ Err ReadFail.Failed → (S.state source.new).faults ≡ (S.state source.old).faults }
 
-        ensures given { S.given source.new ≡ raised (S.given source.old) (moved result) }
+        ensures given { (S.state source.new).given ≡ raised (S.state source.old).given (moved result) }
         ensures taken { self.new.taken ≡ self.old.taken + moved result }
         ensures limit { self.new.limit ≡ self.old.limit }
         ensures most { self.new.taken ≤ self.new.limit + 1 }
@@ -236,8 +236,8 @@ impl LineReader {
 
         ensures front { take (length self.old.held) self.new.held ≡ self.old.held }
         ensures len { length self.new.held ≡ length self.old.held + moved result }
-        ensures ahead { prepend_known self.new.held (S.left source.new) ≡ prepend_known self.old.held (S.left source.old) }
-        ensures end { IfOk result (λ n. n ≡ 0 → IsAtEnd (S.left source.new)) }
+        ensures ahead { prepend_known self.new.held (S.state source.new).left ≡ prepend_known self.old.held (S.state source.old).left }
+        ensures end { IfOk result (λ n. n ≡ 0 → IsAtEnd (S.state source.new).left) }
     {
         drop_front(&mut self.bytes, self.start);
         self.start = 0;
@@ -255,16 +255,16 @@ impl LineReader {
 // Takes once, at most so many bytes, and appends what came.
 fn take_onto<S: Source>(source: &mut S, bytes: &mut Vec<u8>, most: usize) -> Result<usize, ReadFail>
     requires { most ≤ 65536 }
-    ensures never_falls { S.faults source.old ≤ S.faults source.new }
-    ensures failed { result ≡ Err ReadFail.Failed → Rose (S.faults source.old) (S.faults source.new) }
-    ensures faults { result ≢ Err ReadFail.Failed → S.faults source.new ≡ S.faults source.old }
+    ensures never_falls { (S.state source.old).faults ≤ (S.state source.new).faults }
+    ensures failed { result ≡ Err ReadFail.Failed → Rose (S.state source.old).faults (S.state source.new).faults }
+    ensures faults { result ≢ Err ReadFail.Failed → (S.state source.new).faults ≡ (S.state source.old).faults }
 
-    ensures given { S.given source.new ≡ raised (S.given source.old) (moved result) }
+    ensures given { (S.state source.new).given ≡ raised (S.state source.old).given (moved result) }
     ensures bound { moved result ≤ most }
     ensures front { take (vec_len bytes.old) bytes.new.items ≡ bytes.old.items }
     ensures len { vec_len bytes.new ≡ vec_len bytes.old + moved result }
-    ensures ahead { prepend_known bytes.new.items (S.left source.new) ≡ prepend_known bytes.old.items (S.left source.old) }
-    ensures end { IfOk result (λ n. n ≡ 0 → 0 < most → IsAtEnd (S.left source.new)) }
+    ensures ahead { prepend_known bytes.new.items (S.state source.new).left ≡ prepend_known bytes.old.items (S.state source.old).left }
+    ensures end { IfOk result (λ n. n ≡ 0 → 0 < most → IsAtEnd (S.state source.new).left) }
 {
     let held = bytes.len();
     let Ok(()) = bytes.resize(held + most, 0) else {

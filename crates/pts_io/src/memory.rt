@@ -49,11 +49,7 @@ impl MemorySource {
 }
 
 impl Source for MemorySource {
-    ghost faults = { λ s. s.calls.faults };
-
-    ghost given = { λ s. s.given };
-
-    ghost left = { λ s. Some s.left };
+    ghost state = { λ s. record { left = Some s.left; given = s.given; faults = s.calls.faults } };
 
     /// Fails at the listed calls alone, and gives as many bytes as it may.
     fn take(&mut self, buffer: &mut [u8]) -> Result<usize, Fail>
@@ -120,9 +116,7 @@ impl MemorySink {
 }
 
 impl Sink for MemorySink {
-    ghost faults = { λ s. s.calls.faults };
-
-    ghost written = { λ s. Some s.written };
+    ghost state = { λ s. record { written = Some s.written; faults = s.calls.faults } };
 
     /// Fails at the listed calls alone, and takes as many bytes as it has room for. Takes no memory.
     fn put(&mut self, bytes: &[u8]) -> Result<usize, Fail>

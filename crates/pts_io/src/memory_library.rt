@@ -45,13 +45,7 @@ impl MemoryLibrary {
 }
 
 impl Library for MemoryLibrary {
-    ghost faults = { λ s. s.calls.faults };
-
-    ghost missing = { λ s. s.missing };
-
-    ghost too_long = { λ s. s.too_long };
-
-    ghost files = { λ s. Some s.files };
+    ghost state = { λ s. record { files = Some s.files; missing = s.missing; too_long = s.too_long; faults = s.calls.faults } };
 
     /// Fails at the listed calls alone.
     fn read(&mut self, alloc: Global, name: &str) -> Result<Found, ReadFail>

@@ -5,7 +5,7 @@ use crate::sinks::Sink;
 use crate::sources::Source;
 use std::io::{Read, Stdin, Stdout, Write};
 
-/// Standard input, or another reader, as a source. It tells nothing of its bytes.
+/// Standard input, or another reader, as a source. It shows nothing of its bytes.
 #[derive(Drop)]
 pub struct StdSource<R = Stdin> {
     reader: R,
@@ -25,11 +25,7 @@ impl<R> StdSource<R> {
 }
 
 impl<R: Read> Source for StdSource<R> {
-    ghost faults = { λ s. s.faults };
-
-    ghost given = { λ s. s.given };
-
-    ghost left = { λ _. None };
+    ghost state = { λ s. record { left = None; given = s.given; faults = s.faults } };
 
     /// Reads once.
     fn take(&mut self, buffer: &mut [u8]) -> Result<usize, Fail> {
@@ -46,7 +42,7 @@ impl<R: Read> Source for StdSource<R> {
     }
 }
 
-/// Standard output, or another writer, as a sink. It tells nothing of its bytes.
+/// Standard output, or another writer, as a sink. It shows nothing of its bytes.
 #[derive(Drop)]
 pub struct StdSink<W = Stdout> {
     writer: W,
@@ -61,9 +57,7 @@ impl<W> StdSink<W> {
 }
 
 impl<W: Write> Sink for StdSink<W> {
-    ghost faults = { λ s. s.faults };
-
-    ghost written = { λ _. None };
+    ghost state = { λ s. record { written = None; faults = s.faults } };
 
     /// Writes once.
     fn put(&mut self, bytes: &[u8]) -> Result<usize, Fail> {

@@ -22,22 +22,22 @@ pub fn read_whole<S: Source>(
     source: &mut S,
     limit: usize,
 ) -> Result<Vec<u8>, WholeFault>
-    ensures never_falls { S.faults source.old ≤ S.faults source.new }
+    ensures never_falls { (S.state source.old).faults ≤ (S.state source.new).faults }
     ensures moved { result ≢ Err WholeFault.TooMuch → (n : ℕ) × (n ≤ limit)
-        × (S.given source.new ≡ raised (S.given source.old) n)
-        × (S.left source.new ≡ option_map (λ all. drop n all) (S.left source.old)) }
+        × ((S.state source.new).given ≡ raised (S.state source.old).given n)
+        × ((S.state source.new).left ≡ option_map (λ all. drop n all) (S.state source.old).left) }
 
-    ensures faults { OnOk result (S.faults source.new ≡ S.faults source.old) }
+    ensures faults { OnOk result ((S.state source.new).faults ≡ (S.state source.old).faults) }
     ensures within { IfOk result (λ bytes. vec_len bytes ≤ limit) }
-    ensures given { IfOk result (λ bytes. S.given source.new ≡ raised (S.given source.old) (vec_len bytes)) }
-    ensures read { IfOk result (λ bytes. IfSome (S.left source.old) (λ all. bytes.items ≡ all)) }
-    ensures end { OnOk result (IsAtEnd (S.left source.new)) }
+    ensures given { IfOk result (λ bytes. (S.state source.new).given ≡ raised (S.state source.old).given (vec_len bytes)) }
+    ensures read { IfOk result (λ bytes. IfSome (S.state source.old).left (λ all. bytes.items ≡ all)) }
+    ensures end { OnOk result (IsAtEnd (S.state source.new).left) }
 
-    ensures too_much_faults { result ≡ Err WholeFault.TooMuch → S.faults source.new ≡ S.faults source.old }
-    ensures too_much_given { result ≡ Err WholeFault.TooMuch → S.given source.new ≡ raised (S.given source.old) (limit + 1) }
-    ensures too_much_taken { result ≡ Err WholeFault.TooMuch → S.left source.new ≡ option_map (λ all. drop (limit + 1) all) (S.left source.old) }
-    ensures too_much_left { result ≡ Err WholeFault.TooMuch → IfSome (S.left source.old) (λ all. limit < length all) }
-    ensures failed { result ≡ Err WholeFault.Failed → Rose (S.faults source.old) (S.faults source.new) }
+    ensures too_much_faults { result ≡ Err WholeFault.TooMuch → (S.state source.new).faults ≡ (S.state source.old).faults }
+    ensures too_much_given { result ≡ Err WholeFault.TooMuch → (S.state source.new).given ≡ raised (S.state source.old).given (limit + 1) }
+    ensures too_much_taken { result ≡ Err WholeFault.TooMuch → (S.state source.new).left ≡ option_map (λ all. drop (limit + 1) all) (S.state source.old).left }
+    ensures too_much_left { result ≡ Err WholeFault.TooMuch → IfSome (S.state source.old).left (λ all. limit < length all) }
+    ensures failed { result ≡ Err WholeFault.Failed → Rose (S.state source.old).faults (S.state source.new).faults }
 {
     let mut storage = piece_buffer(alloc).map_err(|_| WholeFault::Memory)?;
     let buffer = storage.as_mut_slice();
@@ -72,11 +72,11 @@ fn piece_buffer(alloc: Global) -> Result<Vec<u8>, AllocError>
 ///
 /// `Failed` only where the sink's count of faults rose; then a first part of the bytes was written.
 pub fn write_whole<K: Sink>(sink: &mut K, bytes: &[u8]) -> Result<(), Fail>
-    ensures never_falls { K.faults sink.old ≤ K.faults sink.new }
-    ensures faults { OnOk result (K.faults sink.new ≡ K.faults sink.old) }
-    ensures written { OnOk result (K.written sink.new ≡ append_known (K.written sink.old) bytes.now) }
-    ensures failed { OnErr result (Rose (K.faults sink.old) (K.faults sink.new)) }
-    ensures part { OnErr result ((n : ℕ) × (n ≤ length bytes.now) × (K.written sink.new ≡ append_known (K.written sink.old) (take n bytes.now))) }
+    ensures never_falls { (K.state sink.old).faults ≤ (K.state sink.new).faults }
+    ensures faults { OnOk result ((K.state sink.new).faults ≡ (K.state sink.old).faults) }
+    ensures written { OnOk result ((K.state sink.new).written ≡ append_known (K.state sink.old).written bytes.now) }
+    ensures failed { OnErr result (Rose (K.state sink.old).faults (K.state sink.new).faults) }
+    ensures part { OnErr result ((n : ℕ) × (n ≤ length bytes.now) × ((K.state sink.new).written ≡ append_known (K.state sink.old).written (take n bytes.now))) }
 {
     let mut done = 0;
     while done < bytes.len() {

@@ -5,7 +5,7 @@ use Rattle.pts_io.proofs.whole.read_whole.Given as goal
 
 abbrev pub invariant-turns : goal.invariant-turns
 invariant-turns g l =
-    (vec_len l.bytes ≤ l.limit) × (g.S.Source.faults l.source ≡ g.S.Source.faults l.initial.source) × (g.S.Source.given l.source ≡ raised (g.S.Source.given l.initial.source) (vec_len l.bytes)) × (g.S.Source.left l.initial.source ≡ prepend_known l.bytes.items (g.S.Source.left l.source))
+    (vec_len l.bytes ≤ l.limit) × ((g.S.Source.state l.source).faults ≡ (g.S.Source.state l.initial.source).faults) × ((g.S.Source.state l.source).given ≡ raised (g.S.Source.state l.initial.source).given (vec_len l.bytes)) × ((g.S.Source.state l.initial.source).left ≡ prepend_known l.bytes.items (g.S.Source.state l.source).left)
 
 abbrev pub decreases-turns : goal.decreases-turns
 decreases-turns g l = l.limit - vec_len l.bytes

@@ -4,7 +4,7 @@ use Rattle.pts_io.proofs.whole.write_whole.Given as goal
 
 abbrev pub invariant-loop-done : goal.invariant-loop-done
 invariant-loop-done g l =
-    (l.done ≤ length l.bytes) × (g.K.Sink.faults l.sink ≡ g.K.Sink.faults l.initial.sink) × (g.K.Sink.written l.sink ≡ append_known (g.K.Sink.written l.initial.sink) (take l.done l.bytes))
+    (l.done ≤ length l.bytes) × ((g.K.Sink.state l.sink).faults ≡ (g.K.Sink.state l.initial.sink).faults) × ((g.K.Sink.state l.sink).written ≡ append_known (g.K.Sink.state l.initial.sink).written (take l.done l.bytes))
 
 abbrev pub decreases-loop-done : goal.decreases-loop-done
 decreases-loop-done g l = length l.bytes - l.done

@@ -6,7 +6,7 @@ use Rattle.pts_io.proofs.lines.LineReader.next.Goals as goal
 
 pub returns-in-Some-clause-ahead : goal.returns-in-Some-clause-ahead
 returns-in-Some-clause-ahead g c =
-    ap (λ held. prepend_known held (g.S.Source.left c.args.source.now)) c.hand_out.ensures.held ∙ behind-ahead ReadFail _ _ _ c.in-Some.end c.in-Some.ensures
+    ap (λ held. prepend_known held (g.S.Source.state c.args.source.now).left) c.hand_out.ensures.held ∙ behind-ahead ReadFail _ _ _ c.in-Some.end c.in-Some.ensures
 
 pub returns-in-Some-clause-answer : goal.returns-in-Some-clause-answer
 returns-in-Some-clause-answer g c inside = answer_ahead ReadFail _ c.args.self.now.held _ c.in-Some.end _ c.in-Some.ensures (omega (arith, inside)) c.hand_out.ensures.answer

@@ -18,7 +18,7 @@ pub returns-in-Some-clause-ahead : goal.returns-in-Some-clause-ahead
 returns-in-Some-clause-ahead g c =
     let took = c.in_ok-count.ensures in
     let out = c.hand_out.ensures in
-    ap (λ held. prepend_known held (g.S.Source.left c.fill.new.source)) out.held ∙ behind-ahead ReadFail _ _ _ c.in-Some.end c.in-Some.ensures ∙ ap (option_map (behind c.hand_out.result)) (took.ahead ∙ c.turns.invariant.6)
+    ap (λ held. prepend_known held (g.S.Source.state c.fill.new.source).left) out.held ∙ behind-ahead ReadFail _ _ _ c.in-Some.end c.in-Some.ensures ∙ ap (option_map (behind c.hand_out.result)) (took.ahead ∙ c.turns.invariant.6)
 
 pub returns-in-Some-clause-answer : goal.returns-in-Some-clause-answer
 returns-in-Some-clause-answer g c =

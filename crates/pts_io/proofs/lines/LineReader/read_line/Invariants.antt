@@ -8,11 +8,11 @@ abbrev pub invariant-turns : goal.invariant-turns
 invariant-turns g l =
     (l.self.taken ≤ l.self.limit)
     × NoFeed l.self.held
-    × (g.S.Source.faults l.source ≡ g.S.Source.faults l.initial.source)
+    × ((g.S.Source.state l.source).faults ≡ (g.S.Source.state l.initial.source).faults)
     × (l.self.limit ≡ l.initial.self.limit)
     × (l.initial.self.taken ≤ l.self.taken)
-    × (g.S.Source.given l.source ≡ raised (g.S.Source.given l.initial.source) (l.self.taken - l.initial.self.taken))
-    × (prepend_known l.self.held (g.S.Source.left l.source) ≡ prepend_known l.initial.self.held (g.S.Source.left l.initial.source))
+    × ((g.S.Source.state l.source).given ≡ raised (g.S.Source.state l.initial.source).given (l.self.taken - l.initial.self.taken))
+    × (prepend_known l.self.held (g.S.Source.state l.source).left ≡ prepend_known l.initial.self.held (g.S.Source.state l.initial.source).left)
     × (length l.self.held + l.initial.self.taken ≡ length l.initial.self.held + l.self.taken)
 
 abbrev pub decreases-turns : goal.decreases-turns
