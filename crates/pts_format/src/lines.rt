@@ -22,13 +22,13 @@ pub fn format_lines<S: Source, K: Sink>(
     sink: &mut K,
     limit: u32,
 ) -> Ended
-    ensures read_failed { result ≡ Ended.ReadFailed → Rose (S.faults source.old) (S.faults source.new) }
-    ensures reads { result ≢ Ended.ReadFailed → S.faults source.new ≡ S.faults source.old }
-    ensures write_failed { result ≡ Ended.WriteFailed → Rose (K.faults sink.old) (K.faults sink.new) }
-    ensures writes { result ≢ Ended.WriteFailed → K.faults sink.new ≡ K.faults sink.old }
-    ensures lines { (n : ℕ) × (S.given source.new ≡ raised (S.given source.old) n) × IsCount limit result n
-        × ((out : List ℕ) × Shows result (K.written sink.old) (K.written sink.new) out
-        × IfSome (S.left source.old) (λ bytes. EndAnswers system.now.sorts limit result n bytes out)) }
+    ensures read_failed { result ≡ Ended.ReadFailed → Rose (S.state source.old).faults (S.state source.new).faults }
+    ensures reads { result ≢ Ended.ReadFailed → (S.state source.new).faults ≡ (S.state source.old).faults }
+    ensures write_failed { result ≡ Ended.WriteFailed → Rose (K.state sink.old).faults (K.state sink.new).faults }
+    ensures writes { result ≢ Ended.WriteFailed → (K.state sink.new).faults ≡ (K.state sink.old).faults }
+    ensures lines { (n : ℕ) × ((S.state source.new).given ≡ raised (S.state source.old).given n) × IsCount limit result n
+        × ((out : List ℕ) × Shows result (K.state sink.old).written (K.state sink.new).written out
+        × IfSome (S.state source.old).left (λ bytes. EndAnswers system.now.sorts limit result n bytes out)) }
 {
     let Ok(mut reader) = LineReader::new(alloc, u64::from(limit)) else {
         return Ended::NoMemory;

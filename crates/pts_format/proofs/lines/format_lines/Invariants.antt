@@ -8,8 +8,8 @@ abbrev pub invariant-loop-before : goal.invariant-loop-before
 invariant-loop-before g l = record {
   limit : l.reader.limit ≡ l.limit;
   inside : l.reader.taken ≤ l.limit;
-  reads : g.S.Source.faults l.source ≡ g.S.Source.faults l.initial.source;
-  writes : g.K.Sink.faults l.sink ≡ g.K.Sink.faults l.initial.sink;
-  given : g.S.Source.given l.source ≡ raised (g.S.Source.given l.initial.source) l.reader.taken;
-  lines : (out : List ℕ) × (g.K.Sink.written l.sink ≡ append_known (g.K.Sink.written l.initial.sink) out) × IfSome (g.S.Source.left l.initial.source) (λ bytes. Stands l.system.sorts l.limit bytes l.reader (prepend_known l.reader.held (g.S.Source.left l.source)) l.before out);
+  reads : (g.S.Source.state l.source).faults ≡ (g.S.Source.state l.initial.source).faults;
+  writes : (g.K.Sink.state l.sink).faults ≡ (g.K.Sink.state l.initial.sink).faults;
+  given : (g.S.Source.state l.source).given ≡ raised (g.S.Source.state l.initial.source).given l.reader.taken;
+  lines : (out : List ℕ) × ((g.K.Sink.state l.sink).written ≡ append_known (g.K.Sink.state l.initial.sink).written out) × IfSome (g.S.Source.state l.initial.source).left (λ bytes. Stands l.system.sorts l.limit bytes l.reader (prepend_known l.reader.held (g.S.Source.state l.source).left) l.before out);
 }
