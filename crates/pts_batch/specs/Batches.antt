@@ -7,7 +7,6 @@ use Rattle.pts_ctx.specs.Front.{Global}
 use Rattle.pts_lines.specs.declared.command.Declaring.{Declaring}
 use Rattle.pts_lines.specs.Lines.{Line, of_type, definition}
 use Rattle.pts_module_file.specs.declared.fault.FileWhy.{FileWhy}
-use Rattle.pts_module_file.specs.declared.fault.FileWhy.TheVariants.{Form, Read}
 use Rattle.pts_module_file.specs.File.{File, module_of}
 use Rattle.pts_printed.specs.Locals.{printed}
 use Rattle.pts_reduce_cost.specs.Costs.{Globals}

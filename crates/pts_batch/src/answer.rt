@@ -1,9 +1,7 @@
 // Batches of one module.
 
-ghost use Rattle.std.specs.Prelude.{◌≡◌, true, ◌+◌, ◌++◌, ◌∷◌, ℕ, [], Ok, None, IfOk, codes, string_bytes, nat_le};
+ghost use Rattle.std.specs.Prelude.{◌≡◌, true, ◌+◌, ◌++◌, ◌∷◌, [], Ok, None, IfOk, codes};
 ghost use Rattle.std.specs.Fmt.{decimal};
-ghost use Rattle.pts_ctx.specs.Front.{bare_front};
-ghost use Rattle.pts_rules.specs.Derives.{Legal};
 ghost use Rattle.pts_check.specs.Entered.{declared_entries, MayFollow};
 ghost use Rattle.pts_module_file.specs.File.{AllShort, module_file_of, module_of};
 ghost use Rattle.pts_names.specs.Name.{is_short};

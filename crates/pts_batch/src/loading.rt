@@ -1,9 +1,9 @@
 // The statements of a module, one after another.
 
-ghost use Rattle.std.specs.Prelude.{◌≡◌, ◌≤◌, ◌<◌, ◌+◌, ◌∷◌, ◌++◌, ℕ, [], length, map, true, None, IfOk, OnOk, IfErr};
+ghost use Rattle.std.specs.Prelude.{◌≡◌, ◌≤◌, ◌<◌, ◌+◌, ◌∷◌, ◌++◌, [], length, map, true, None, IfOk, OnOk, IfErr};
 ghost use Rattle.pts_ctx.specs.Front.{Fresh, Global};
 ghost use Rattle.pts_ctx.specs.Entries.{global_of};
-ghost use Rattle.pts_ctx.specs.Seen.{global_within, label_place};
+ghost use Rattle.pts_ctx.specs.Seen.{global_within};
 ghost use Rattle.pts_rules.specs.Meter.{left};
 ghost use Rattle.pts_reduce.specs.Given.{Later};
 ghost use Rattle.pts_reduce_cost.specs.Laws.{WithinBudget};

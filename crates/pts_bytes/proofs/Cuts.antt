@@ -1,5 +1,5 @@
 -- Where the first of some bytes cuts a text.
-use Rattle.std.proofs.Common.{◌≡◌, ℕ, zero, suc, ◌<◌, ◌≤◌, ◌+◌, ◌-◌, ◌≢◌, List, [], ◌∷◌, length, get_or, take, drop, refl, sym, ◌∙◌, ap, true, false, add-one, arith, length-drop, ◌==◌, if◌then◌else◌}
+use Rattle.std.proofs.Common.{◌≡◌, ℕ, zero, suc, ◌<◌, ◌≤◌, ◌+◌, ◌-◌, ◌≢◌, List, [], ◌∷◌, length, get_or, take, drop, refl, sym, ◌∙◌, ap, add-one, arith, length-drop, ◌==◌, if◌then◌else◌}
 use Rattle.std.proofs.lemmas.List.{take_all}
 use Rattle.pts_bytes.specs.Pieces.{pieces}
 

@@ -1,7 +1,5 @@
-ghost use Rattle.std.specs.Prelude.{◌≡◌, ◌∷◌, [], ◌<◌, length, take, drop, Some, None, MatchOption, MatchResult};
-ghost use Rattle.pts_names.specs.Name.{same_name};
-ghost use Rattle.pts_bytes.specs.Pieces.{pieces};
-ghost use Rattle.pts_certificate.specs.Text.{lines, words, only_end};
+ghost use Rattle.std.specs.Prelude.{◌≡◌, ◌∷◌, [], ◌<◌, length, Some, None, MatchOption, MatchResult};
+ghost use Rattle.pts_certificate.specs.Text.{lines, words};
 ghost use Rattle.pts_certificate.specs.Rows.{alone};
 
 use crate::fault::LineFault;

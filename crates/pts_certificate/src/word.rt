@@ -1,5 +1,4 @@
-ghost use Rattle.std.specs.Prelude.{◌≡◌, true, false, MatchOption};
-ghost use Rattle.std.specs.Str.{is_utf8};
+ghost use Rattle.std.specs.Prelude.{◌≡◌};
 ghost use Rattle.pts_certificate.specs.Calls.{Answers};
 ghost use Rattle.pts_certificate.specs.Rows.{word_where, is_name, is_binder, is_spelling};
 ghost use Rattle.pts_certificate.specs.Rows as format;

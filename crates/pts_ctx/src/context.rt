@@ -1,6 +1,6 @@
 // Contexts: entries and labels, found by their names.
 
-ghost use Rattle.std.specs.Prelude.{map, ◌↔◌, IsTrue, IfOk, ◌≡◌, ◌+◌, ◌<◌, ◌≤◌, ◌++◌, ◌∷◌, [], length, true, None, Some, slice_get, IfSome, OnOk, OnErr};
+ghost use Rattle.std.specs.Prelude.{map, ◌↔◌, IsTrue, IfOk, ◌≡◌, ◌+◌, ◌<◌, ◌≤◌, ◌++◌, ◌∷◌, [], length, true, None, Some, slice_get, IfSome, OnOk};
 ghost use Rattle.std.specs.Option.{option_map, option_copied};
 ghost use Rattle.pts_ctx.specs.Front.{Fresh, find};
 ghost use Rattle.pts_ctx.specs.Seen.{place_of, label_place, global_within, globals_within, NamesDiffer, LabelsInside, IsFrontOf};

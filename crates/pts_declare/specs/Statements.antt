@@ -1,5 +1,5 @@
 -- What a module file declares, with its names and sorts looked up.
-use Rattle.std.specs.Prelude.{ℕ, List, [], nat_le, length, Bool, ◌&&◌, if◌then◌else◌, Option, Some, None, is_some, Result, Ok}
+use Rattle.std.specs.Prelude.{ℕ, List, [], ◌&&◌, if◌then◌else◌, Option, Some, None, is_some, Result, Ok}
 use Rattle.pts_names.specs.Name.{Name, joined, is_short}
 use Rattle.pts_terms.specs.Tree.{Named}
 use Rattle.pts_ctx.specs.Front.{Global}

@@ -1,6 +1,6 @@
 // Why a statement is refused.
 
-ghost use Rattle.std.specs.Prelude.{◌≡◌, ℕ};
+ghost use Rattle.std.specs.Prelude.{◌≡◌};
 
 use pts_infer::{Flaw, Part};
 use pts_names::Name;

@@ -1,7 +1,7 @@
 // The names that the statements of a module may use.
 
-ghost use Rattle.std.specs.Prelude.{◌≡◌, ◌≤◌, length, IfOk, true};
-ghost use Rattle.pts_names.specs.Name.{is_plain, is_short};
+ghost use Rattle.std.specs.Prelude.{◌≡◌, ◌≤◌, length};
+ghost use Rattle.pts_names.specs.Name.{is_short};
 ghost use Rattle.pts_declare.specs.Statements.{visible};
 
 use pts_ctx::Context;

@@ -5,7 +5,6 @@ ghost use Rattle.pts_names.specs.Name.{joined, is_short};
 ghost use Rattle.pts_ctx.specs.Front.{Fresh};
 ghost use Rattle.pts_ctx.specs.Seen.{place_of};
 ghost use Rattle.pts_grammar.specs.Seen.{syntax_of};
-ghost use Rattle.pts_parser.specs.Resolution.{Answers};
 ghost use Rattle.pts_rules.specs.Meter.{left};
 ghost use Rattle.pts_reduce_cost.specs.Laws.{WithinBudget};
 ghost use Rattle.pts_infer_cost.specs.Typing.{comes};

@@ -1,16 +1,16 @@
 -- The grammar names one refusal at most.
-use Rattle.std.proofs.Common.{ℕ, ◌≡◌, refl, sym, ◌∙◌, ap, subst, List, [], ◌∷◌, ◌++◌, Option, Some, None, ◌⊎◌, inl, inr, append_assoc}
+use Rattle.std.proofs.Common.{ℕ, ◌≡◌, refl, sym, ◌∙◌, ap, subst, List, [], ◌∷◌, ◌++◌, Some, ◌⊎◌, append_assoc}
 use Rattle.std.proofs.lemmas.List.{append-nil}
 use Rattle.std.specs.Prelude.{codes}
 use Rattle.pts_tokens.specs.declared.token.Token.{Token}
-use Rattle.pts_tokens.specs.declared.token.Token.TheVariants.{Lambda, At, Let, In, Colon, Assign, Dot, Arrow, Open, Close, Semicolon, Sort, Name as Word, Number}
+use Rattle.pts_tokens.specs.declared.token.Token.TheVariants.{In, Colon, Assign, Dot, Close, Sort, Name as Word}
 use Rattle.pts_tokens.specs.Tokens.{Spot}
 use Rattle.pts_grammar.specs.declared.kind.Kind.{Kind}
 use Rattle.pts_grammar.specs.declared.kind.Kind.TheVariants as kind
 use Rattle.pts_grammar.specs.Syntax.{Syntax}
 use Rattle.pts_grammar.specs.Grammar.{Reads}
-use Rattle.pts_grammar.specs.Machine.{syntax, Frame, in_parens, at_type, at_body, let_value, let_type, let_body, behind_arrow, State, begin, binder, binder_sign, let_name, let_sign, after, Move, go, stay, fail, deep, read, closing, step, whole, at_end, run}
-use Rattle.pts_grammar.specs.Refusals.{Viable, CanFollow, Wants, a_colon, a_dot, an_assign, an_in, a_close, the_end, a_name, a_term, Refused, at_token, at_length, RefusalsAreDetermined}
+use Rattle.pts_grammar.specs.Machine.{syntax, in_parens, at_type, at_body, let_value, let_type, let_body, behind_arrow, State, begin, binder, binder_sign, let_name, let_sign, after, Move, go, stay, fail, deep, read, closing, step, whole, at_end, run}
+use Rattle.pts_grammar.specs.Refusals.{Viable, CanFollow, Wants, a_colon, a_dot, an_assign, an_in, a_close, the_end, a_name, a_term, at_token, at_length, RefusalsAreDetermined}
 use Rattle.pts_grammar.proofs.Complete.{Frames}
 use Rattle.pts_grammar.proofs.Sound.{always, read_always}
 use Rattle.pts_grammar.proofs.Reach.{reach, reach_run}

@@ -1,4 +1,4 @@
-ghost use Rattle.std.specs.Prelude.{◌≡◌, ◌⊎◌, ℕ, Bool, List, []};
+ghost use Rattle.std.specs.Prelude.{◌≡◌, ◌⊎◌, List, []};
 ghost use Rattle.pts_tokens.specs.Tokens.{Spot};
 ghost use Rattle.pts_grammar.specs.Syntax.{Syntax};
 ghost use Rattle.pts_grammar.specs.Grammar.{Reads};

@@ -1,4 +1,4 @@
-ghost use Rattle.std.specs.Prelude.{◌≡◌, ◌∷◌, [], Option, IfOk, List, ℕ, true, map, option_map, drop};
+ghost use Rattle.std.specs.Prelude.{◌≡◌, ◌∷◌, [], Option, IfOk, List, true, map, option_map, drop};
 ghost use Rattle.pts_tokens.specs.declared.token.Token.{Token as TheToken};
 ghost use Rattle.pts_tokens.specs.Tokens.{Spot};
 ghost use Rattle.pts_grammar.specs.declared.state.State.{State};

@@ -1,8 +1,8 @@
 -- Nodes that compare terms are instances of their forms where their premises say so.
-use Rattle.std.proofs.Common.{◌≡◌, ℕ, ◌<◌, List, length, map, refl, sym, ap, ◌∙◌, Some, None, true, Bool}
+use Rattle.std.proofs.Common.{◌≡◌, ℕ, ◌<◌, List, length, map, refl, sym, ap, ◌∙◌, Some, None, true}
 use Rattle.std.specs.Option.{option_map}
 use Rattle.pts_names.specs.Name.{Name}
-use Rattle.pts_terms.specs.Tree.{Bare, bare, app, lam, pi, same_term}
+use Rattle.pts_terms.specs.Tree.{bare, app, lam, pi, same_term}
 use Rattle.pts_terms.proofs.Same.{same_term_self, nat_eq_self}
 use Rattle.pts_ctx.specs.System.{Specification}
 use Rattle.pts_ctx.specs.Front.{Global, Front, bare_front, unknown}
@@ -11,9 +11,8 @@ use Rattle.pts_record.specs.Table.{Tables, named_at, bare_at, bare_trees}
 use Rattle.pts_record.specs.Said.{Said, Scope, nothing, context, judgement, comparison, scope_of, longer, by_bare, row_of_node, told, named_told, bare_local, bare_scope, bare_said, is_context}
 use Rattle.pts_record.proofs.Named.{told_bare, scope_bare}
 use Rattle.pts_record.proofs.Trees.{bare_of_named}
-use Rattle.pts_rules.specs.declared.why.Why.{Why}
 use Rattle.pts_rules.specs.Step.{head_step}
-use Rattle.pts_rules.specs.Conditions.{form_fault, in_order, comparison_kinds, both_places, binder_places, same_conditions, left_conditions, right_conditions, bare_conditions, capp_terms, clam_terms, cpi_terms}
+use Rattle.pts_rules.specs.Conditions.{form_fault, comparison_kinds, both_places, binder_places, same_conditions, left_conditions, right_conditions, bare_conditions, capp_terms, clam_terms, cpi_terms}
 use Rattle.pts_rules.specs.Parts.{is_that, is_bare_of}
 use Rattle.pts_rules.proofs.HeadBare.{head_step_bare}
 use Rattle.pts_rules.proofs.Passing.{AllPass, none_fails, is_same, all_in_order}

@@ -1,17 +1,13 @@
 -- What nodes judge stays so while a record grows, and what they say without printed names.
-use Rattle.std.proofs.Common.{◌≡◌, ℕ, ◌<◌, List, [], ◌∷◌, length, map, refl, ap, ◌∙◌, true, Some, None, Bool}
-use Rattle.pts_terms.specs.Tree.{Bare, bare, let_in, same_term}
-use Rattle.pts_terms.proofs.Same.{same_term_self}
+use Rattle.std.proofs.Common.{◌≡◌, ℕ, ◌<◌, List, [], ◌∷◌, length, map, refl, ap, ◌∙◌, true, Some}
+use Rattle.pts_terms.specs.Tree.{Bare, bare, let_in}
 use Rattle.pts_ctx.specs.Front.{Local, assumed, defined, unknown}
 use Rattle.pts_record.specs.Table.{Tables, named_at, bare_at}
-use Rattle.pts_record.specs.Said.{by_assume, by_define, Scope, Said, nothing, context, judgement, comparison, scope_of, told, named_told, bare_local, bare_scope, bare_said, is_context, all_known}
+use Rattle.pts_record.specs.Said.{by_assume, by_define, Said, nothing, context, judgement, comparison, scope_of, told, named_told, bare_local, bare_said, is_context, all_known}
 use Rattle.pts_record.proofs.Named.{told_bare, scope_bare}
 use Rattle.pts_record.proofs.Trees.{bare_of_named}
-use Rattle.pts_rules.specs.declared.why.Why.{Why}
 use Rattle.pts_rules.specs.Parts.{is_typed_context, newest_assumption, let_with}
-use Rattle.pts_rules.specs.Conditions.{in_order}
-use Rattle.pts_grow.specs.declared.compared.Compared.{Compared}
-use Rattle.pts_grow.specs.Keeps.{Keeps, IsNode, Compares}
+use Rattle.pts_grow.specs.Keeps.{Keeps, IsNode}
 use Rattle.pts_grow.proofs.Instances.{scope_at}
 use Rattle.pts_grow.proofs.Grow.{stays, node_stays, tree_stays, bare_stays, told_stays}
 use Rattle.pts_grow.specs.declared.judged.Judged.{Judged}

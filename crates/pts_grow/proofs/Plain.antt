@@ -1,5 +1,5 @@
 -- Terms that are made of a record's terms, without printed names.
-use Rattle.std.proofs.Common.{◌≡◌, ℕ, ◌<◌, List, length, sym, ap, ◌∙◌, Option, Some}
+use Rattle.std.proofs.Common.{◌≡◌, ℕ, ◌<◌, List, length, sym, ap, ◌∙◌, Some}
 use Rattle.std.specs.Option.{option_map}
 use mathlib.Core.Path.{ap₂}
 use Rattle.pts_names.specs.Name.{Name}
@@ -10,7 +10,7 @@ use Rattle.pts_record.specs.declared.shape.Shape.{Shape}
 use Rattle.pts_record.specs.Table.{Tables, named_at, bare_at}
 use Rattle.pts_record.proofs.Trees.{bare_of_named}
 use Rattle.pts_grow.specs.Keeps.{Keeps}
-use Rattle.pts_grow.proofs.Grow.{tree_stays, bare_stays}
+use Rattle.pts_grow.proofs.Grow.{bare_stays}
 use Rattle.pts_grow.specs.Judges.{constant_type}
 
 pub plain : (ss : List Shape) (n : ℕ) (t : Named) → named_at ss n ≡ t → bare_at ss n ≡ bare t

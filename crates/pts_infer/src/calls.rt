@@ -2,7 +2,6 @@
 
 ghost use Rattle.std.specs.Prelude.{◌≡◌, ◌<◌, ℕ, length, IfOk, IfErr, true};
 ghost use Rattle.pts_terms.specs.Tree.{Named, sort as sort_term};
-ghost use Rattle.pts_terms.specs.Seen.{named};
 ghost use Rattle.pts_ctx.specs.Front.{bare_front};
 ghost use Rattle.pts_record.specs.Table.{named_at};
 ghost use Rattle.pts_record.specs.Said.{named_told, judgement, scope_of, is_judgement, place_of, subject_of, claim_of};

@@ -1,8 +1,6 @@
 // Records that end with a judgement.
 
 ghost use Rattle.std.specs.Prelude.{◌≡◌, ◌<◌, length, suc, IfOk};
-ghost use Rattle.pts_ctx.specs.System.{Specification};
-ghost use Rattle.pts_ctx.specs.Front.{Front};
 ghost use Rattle.pts_grow.specs.Keeps.{Keeps, StaysValid};
 ghost use Rattle.pts_grow.specs.Judges.{IsTypedContext, Judges};
 

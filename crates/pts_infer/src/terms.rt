@@ -4,14 +4,13 @@ ghost use Rattle.std.specs.Prelude.{◌≡◌, ◌<◌, ℕ, length, true, [], S
 ghost use Rattle.pts_terms.specs.Tree.{bare, sort as sort_term};
 ghost use Rattle.pts_terms.specs.Limits.{within};
 ghost use Rattle.pts_terms.specs.Seen.{named};
-ghost use Rattle.pts_ctx.specs.System.{Specification};
-ghost use Rattle.pts_ctx.specs.Front.{Front, bare_front};
+ghost use Rattle.pts_ctx.specs.Front.{bare_front};
 ghost use Rattle.pts_record.specs.Table.{named_at};
 ghost use Rattle.pts_rules.specs.Meter.{left};
 ghost use Rattle.pts_rules.specs.Valid.{IsValid, last_said, concludes_as};
 ghost use Rattle.pts_reduce_cost.specs.Laws.{WithinBudget};
 ghost use Rattle.pts_infer_cost.specs.Typing.{Fits, comes, inference_nesting};
-ghost use Rattle.pts_grow.specs.Keeps.{Keeps, StaysValid, IsTerm, WhyNot};
+ghost use Rattle.pts_grow.specs.Keeps.{StaysValid, IsTerm, WhyNot};
 ghost use Rattle.pts_grow.specs.Judges.{IsTypedContext, Judges};
 ghost use Rattle.pts_reduce.specs.Given.{Later};
 ghost use Rattle.pts_reduce.specs.Chain.{entries_of};

@@ -1,7 +1,7 @@
-ghost use Rattle.std.specs.Prelude.{◌≡◌, ◌≢◌, ℕ, ◌+◌, ◌-◌, ◌<◌, ◌≤◌, ◌⊎◌, ◌↔◌, List, [], length, take, drop, vec_len, Contains, Ok, Err, IfOk, IfSome, IfErr, IsTrue, MatchOption};
+ghost use Rattle.std.specs.Prelude.{◌≡◌, ◌≢◌, ◌+◌, ◌-◌, ◌<◌, ◌≤◌, ◌⊎◌, ◌↔◌, [], length, take, drop, vec_len, Contains, Ok, Err, IfOk, IfSome, IfErr, IsTrue, MatchOption};
 ghost use Rattle.std.specs.Option.{option_map};
 ghost use Rattle.std.specs.Io.KnownBytes.{prepend_known, IsAtEnd};
-ghost use Rattle.std.specs.Io.BufRead.{first_line, drop_through, strip_last};
+ghost use Rattle.std.specs.Io.BufRead.{first_line, strip_last};
 ghost use Rattle.pts_io.specs.Counts.{raised, Rose};
 ghost use Rattle.pts_io.specs.Calls.{moved};
 ghost use Rattle.pts_io.specs.Lines.{within, IsAnswer, IsNext, behind, NoFeed, IsFirstFeed};

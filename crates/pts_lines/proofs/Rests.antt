@@ -1,12 +1,11 @@
 -- What stands behind a term that was read.
-use Rattle.std.proofs.Common.{ℕ, ◌≡◌, refl, sym, ◌∙◌, ap, List, [], ◌∷◌, Bool, true, false, cond, Option, Some, None, ◌⊎◌, inl, inr}
-use Rattle.pts_names.specs.Name.{Name as Text, is_identifier}
+use Rattle.std.proofs.Common.{ℕ, ◌≡◌, refl, sym, ◌∙◌, ap, List, [], ◌∷◌, Bool, false, Option, Some, None, ◌⊎◌, inl, inr}
 use Rattle.pts_tokens.specs.declared.token.Token.{Token}
 use Rattle.pts_tokens.specs.declared.token.Token.TheVariants.{Lambda, At, Let, Colon, Assign, Arrow, Open, Sort, Name as Word}
 use Rattle.pts_tokens.specs.Tokens.{Spot}
 use Rattle.pts_grammar.specs.declared.kind.Kind.TheVariants as kind
 use Rattle.pts_grammar.specs.Syntax.{Syntax}
-use Rattle.pts_grammar.specs.Machine.{syntax, in_parens, at_type, at_body, let_value, let_type, let_body, behind_arrow, State, begin, binder, binder_sign, let_name, let_sign, after, Move, go, stay, fail, deep, read, if_plain, opening, step, whole, at_end, run}
+use Rattle.pts_grammar.specs.Machine.{syntax, in_parens, State, begin, binder, binder_sign, let_name, let_sign, after, Move, go, stay, fail, deep, read, opening, step, run}
 use Rattle.pts_grammar.proofs.Stays.{plain_stays, end_rest}
 use Rattle.pts_grammar.proofs.Complete.{Frames, follow, Ends, continues, opening_is}
 

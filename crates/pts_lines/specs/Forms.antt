@@ -1,5 +1,5 @@
 -- How the reader goes through a line: what stands behind what, and what comes of it.
-use Rattle.std.specs.Prelude.{◌≡◌, ℕ, zero, suc, List, [], ◌∷◌, map, length, Bool, true, false, Option, Some, None, option_map, Result, Ok, Err}
+use Rattle.std.specs.Prelude.{◌≡◌, ℕ, zero, suc, List, [], ◌∷◌, length, Bool, true, false, Option, Some, None, option_map, Result, Ok, Err}
 use Rattle.pts_names.specs.Name.{Name}
 use Rattle.pts_tokens.specs.declared.token.Token.{Token}
 use Rattle.pts_tokens.specs.declared.token.Token.TheVariants.{Lambda, At, Let, Open, Sort, Semicolon, Name as Word}

@@ -1,6 +1,6 @@
 -- What one token of a line can be: a name of one part other than `_`, one that may be a label, any name, a number of a
 -- budget, a sign, or one of the two signs that may stand behind the name of a definition.
-use Rattle.std.specs.Prelude.{ℕ, ◌+◌, ◌*◌, ◌-◌, ◌&&◌, ◌==◌, not, nat_le, length, List, [], ◌∷◌, Bool, true, false, if◌then◌else◌, Option, Some, None, Result, Ok, Err}
+use Rattle.std.specs.Prelude.{ℕ, ◌+◌, ◌*◌, ◌-◌, ◌&&◌, ◌==◌, nat_le, length, List, [], ◌∷◌, Bool, true, false, if◌then◌else◌, Option, Some, None, Result, Ok, Err}
 use Rattle.pts_names.specs.Name.{Name, is_plain}
 use Rattle.pts_bytes.specs.Digits.{number_up_to}
 use Rattle.pts_tokens.specs.declared.token.Token.TheVariants.{Colon, Assign, Semicolon, Name as Word, Number}

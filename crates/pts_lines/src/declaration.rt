@@ -1,5 +1,4 @@
-ghost use Rattle.std.specs.Prelude.{◌≡◌, ◌≤◌, IfOk, OnOk, IfErr, MatchOption, take, true, false};
-ghost use Rattle.std.specs.Str.{is_utf8};
+ghost use Rattle.std.specs.Prelude.{◌≡◌, ◌≤◌, IfOk, OnOk, IfErr, take};
 ghost use Rattle.pts_grammar.specs.Seen.{within};
 ghost use Rattle.pts_grammar.specs.Open.{more};
 ghost use Rattle.pts_parser.specs.Reading.{tokens_from};

@@ -1,4 +1,4 @@
-ghost use Rattle.std.specs.Prelude.{◌≡◌, ◌≤◌, IfOk, length, if◌then◌else◌, Some, None};
+ghost use Rattle.std.specs.Prelude.{◌≡◌, ◌≤◌, length, if◌then◌else◌, Some, None};
 ghost use Rattle.pts_names.specs.Name.{is_plain};
 ghost use Rattle.pts_lines.specs.Items.{plain as a_plain, label as a_label, placed as a_name, number as a_number, colon as a_colon, assign as an_assign, semicolon as a_semicolon, sign as a_sign, is_label, units, first_item};
 ghost use Rattle.pts_lines.specs.Forms.{AnswersAs, ended};

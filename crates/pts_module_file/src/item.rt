@@ -1,11 +1,10 @@
-ghost use Rattle.std.specs.Prelude.{◌≡◌, true, false, MatchOption, Some, None, IfOk, OnOk, take, drop, if◌then◌else◌};
-ghost use Rattle.std.specs.Str.{is_utf8};
-ghost use Rattle.pts_names.specs.Name.{same_name, is_plain, is_short};
-ghost use Rattle.pts_lines.specs.Reading.{declaration_said, declared_first};
+ghost use Rattle.std.specs.Prelude.{◌≡◌, true, Some, None, IfOk, if◌then◌else◌};
+ghost use Rattle.pts_names.specs.Name.{is_short};
+ghost use Rattle.pts_lines.specs.Reading.{declaration_said};
 ghost use Rattle.pts_lines.specs.Seen.{declaration_of};
 ghost use Rattle.pts_module_file.specs.File.{AnswersAs, file_line_of, IsRead};
 ghost use Rattle.pts_module_file.specs.Lines as lines;
-ghost use Rattle.pts_module_file.specs.Lines.{is_short_text, is_passed, has_short_name, name_of};
+ghost use Rattle.pts_module_file.specs.Lines.{is_short_text, is_passed, name_of};
 
 use crate::fault::{FileLineFault, FileWhy};
 use crate::stage::{Item, Stage, behind, may_declare};

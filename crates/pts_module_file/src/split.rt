@@ -1,5 +1,5 @@
 ghost use Rattle.std.specs.Prelude.{◌≡◌, ◌<◌, ◌∷◌, [], length, MatchOption};
-ghost use Rattle.pts_module_file.specs.Text.{lines_of, unless_empty};
+ghost use Rattle.pts_module_file.specs.Text.{lines_of};
 
 use pts_bytes::whole_line;
 

@@ -1,8 +1,8 @@
 -- Binders with the innermost first.
-use Rattle.std.proofs.Common.{◌≡◌, refl, sym, ◌∙◌, ap, ℕ, suc, ◌+◌, ◌-◌, ◌<◌, ◌≤◌, List, [], ◌∷◌, ◌++◌, Bool, true, false, not, ◌&&◌, cond, Option, Some, None, option_map, length, take, get_or, reverse, arith}
+use Rattle.std.proofs.Common.{◌≡◌, refl, sym, ◌∙◌, ap, ℕ, suc, ◌+◌, ◌-◌, ◌<◌, ◌≤◌, List, [], ◌∷◌, ◌++◌, true, false, ◌&&◌, cond, Option, Some, None, option_map, length, take, get_or, reverse, arith}
 use Rattle.std.proofs.lemmas.List.{reverse-append, take_all}
 use Rattle.std.proofs.Math.Seq.{take-suc}
-use Rattle.pts_names.specs.Name.{Name, same_name, is_identifier, underscore, is_plain}
+use Rattle.pts_names.specs.Name.{Name, same_name}
 use Rattle.pts_parser.specs.Resolution.{place_of}
 
 pub reverse_more : {A : Type 0} (fs : List A) (f : A) → reverse (fs ++ f ∷ []) ≡ f ∷ reverse fs

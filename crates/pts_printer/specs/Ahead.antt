@@ -1,5 +1,5 @@
 -- Whether the variable of each binder of a term occurs in its body: a list, in the order in which the binders are written.
-use Rattle.std.specs.Prelude.{List, [], ◌∷◌, Bool, false, ◌≡◌}
+use Rattle.std.specs.Prelude.{List, [], ◌∷◌, Bool, ◌≡◌}
 use Rattle.pts_terms.specs.Tree.{Named, sort, const, var, app, named_lam, named_pi, named_let}
 use Rattle.pts_printed.specs.Choice.{occurs}
 use Rattle.pts_printer.specs.Calls.{first_or_false, without_first}

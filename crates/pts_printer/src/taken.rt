@@ -14,7 +14,6 @@ pub(crate) struct Taken<'a> {
 }
 
 impl<'a> Model for Taken<'a> {
-    ghost use Rattle.std.specs.Prelude.{map};
     ghost use Rattle.pts_printer.specs.Calls.{Forbidden, texts};
 
     ghost Value = { Forbidden };

@@ -1,10 +1,10 @@
 // A record: its two tables, and what is kept beside their lines.
 
 ghost use Rattle.std.specs.Prelude.{◌≡◌, ◌<◌, ◌≤◌, ◌++◌, ◌∷◌, [], length, take, slice_get, Some, None, OnOk, OnErr, IfOk, IfErr, IfSome};
-ghost use Rattle.pts_terms.specs.Tree.{bare, same_term};
+ghost use Rattle.pts_terms.specs.Tree.{bare};
 ghost use Rattle.pts_terms.specs.Limits.{depth_of, size_of};
 ghost use Rattle.pts_record.specs.Table.{Tables, bare_trees, bare_at, named_at, named_trees, unfold_shape, no_name, the_name, AllBelow, NodesLinked, shape_links, node_links, term_links, term_fault, node_fault, kept_node, UnlessMemory, measure};
-ghost use Rattle.pts_record.specs.Said.{told, named_told, say_as, row_of_node, scope_of, extent, is_judgement};
+ghost use Rattle.pts_record.specs.Said.{told, named_told, say_as, row_of_node, extent, is_judgement};
 
 use crate::hints::{Hints, node_key, term_key};
 use crate::links::{context_fault, kept, part_fault, premise_fault, terms_fault};

@@ -1,12 +1,10 @@
 // Head steps of a record's terms, each for a unit.
 
 ghost use Rattle.std.specs.Prelude.{◌≡◌, ◌<◌, ◌≢◌, length, IfOk, IfSome, Some, None};
-ghost use Rattle.std.specs.Option.{option_map, option_copied};
-ghost use Rattle.pts_terms.specs.Tree.{Named, subst, named_lam};
-ghost use Rattle.pts_terms.specs.Seen.{named};
+ghost use Rattle.std.specs.Option.{option_map};
+ghost use Rattle.pts_terms.specs.Tree.{subst};
 ghost use Rattle.pts_names.specs.Name.{Name};
 ghost use Rattle.pts_ctx.specs.Front.{find, entry_at};
-ghost use Rattle.pts_ctx.specs.Entries.{global_of};
 ghost use Rattle.pts_record.specs.Table.{named_at};
 ghost use Rattle.pts_record.specs.Said.{named_told, scope_of};
 ghost use Rattle.pts_rules.specs.Meter.{left};

@@ -4,7 +4,7 @@ ghost use Rattle.std.specs.Prelude.{◌≡◌, ◌<◌, ◌+◌, ◌*◌, ◌∷
 ghost use Rattle.pts_ctx.specs.System.{Specification};
 ghost use Rattle.pts_ctx.specs.Front.{bare_front, unknown};
 ghost use Rattle.pts_terms.specs.Tree.{app, lam, pi};
-ghost use Rattle.pts_record.specs.Table.{named_at, bare_at};
+ghost use Rattle.pts_record.specs.Table.{named_at};
 ghost use Rattle.pts_record.specs.Said.{named_told, is_context};
 ghost use Rattle.pts_rules.specs.Meter.{left as units};
 ghost use Rattle.pts_rules.specs.Valid.{IsValid};

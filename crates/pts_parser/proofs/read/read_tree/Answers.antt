@@ -1,4 +1,4 @@
-use Rattle.std.proofs.Common.{◌≡◌, sym, subst, length}
+use Rattle.std.proofs.Common.{◌≡◌, subst, length}
 use Rattle.std.proofs.lemmas.Result.{err_from_is_err_and}
 use Rattle.pts_grammar.specs.Refusals.{NoneTooMany, Refuses}
 use Rattle.pts_parser.proofs.Texts.{tree_refused}
