@@ -3,9 +3,10 @@ use Rattle.std.specs.Prelude.{ℕ, ◌+◌, ◌-◌, Bool, true, false, if◌the
 use Rattle.pts_names.specs.Name.{Name, same_name}
 use Rattle.pts_terms.specs.Tree.{Named}
 use Rattle.pts_ctx.specs.System.{Specification, Spelled, specification_of, system_fault}
-use Rattle.pts_record.specs.Table.{Tables, named_at}
+use Rattle.pts_record.specs.Table.{Tables, named_at, kind_of}
 use Rattle.pts_record.specs.declared.shape.Form.{Form}
-use Rattle.pts_record.specs.declared.shape.Form.TheVariants.{SortAt, ConstAt, VarAt, Thin, PiAt, LamAt, AppAt, LetSort, LetAt, Conv}
+use Rattle.pts_record.specs.declared.shape.FormKind.{FormKind}
+use Rattle.pts_record.specs.declared.shape.FormKind.TheVariants.{Context, Judgement, Comparison}
 use Rattle.pts_record.specs.declared.shape.Node.{Node}
 use Rattle.pts_certificate.specs.declared.fault.CertificateFault.{CertificateFault}
 use Rattle.pts_certificate.specs.declared.fault.CertificateFault.TheVariants.{Truncated, BadLine as BadLineAt, BadNumber as BadNumberAt, TooLarge as TooLargeAt, System as NoSystem, Memory as NoMemory}
@@ -74,19 +75,14 @@ abbrev pub axioms_row : Spelled → List ℕ → List (List ℕ) → Result Stat
 axioms_row w word fields =
     if same_name word (codes "axiom") then and_then (axiom_row w fields) (λ v. Ok (at_axioms v)) else rules_row w word fields
 
--- The forms of the nodes that are judgements.
+-- A node of the form is a judgement.
+abbrev pub judging : FormKind → Bool
+judging Context = false
+judging Judgement = true
+judging Comparison = false
+
 abbrev pub judges : Form → Bool
-judges SortAt = true
-judges ConstAt = true
-judges VarAt = true
-judges Thin = true
-judges PiAt = true
-judges LamAt = true
-judges AppAt = true
-judges LetSort = true
-judges LetAt = true
-judges Conv = true
-judges _ = false
+judges f = judging (kind_of f)
 
 -- What a judgement declares: a definition's body is its subject and its type the claim, an assumption's type is its
 -- subject.

@@ -8,7 +8,7 @@ ghost use Rattle.pts_certificate.specs.Seen.{declared_of, heading_of};
 
 use crate::fault::LineFault;
 use crate::state::Heading;
-use pts_record::{Declaration, Form, Node, Record, RecordFault, Shape};
+use pts_record::{Declaration, Form, FormKind, Node, Record, RecordFault, Shape};
 
 /// The record with one more term.
 pub(crate) fn with_term(mut proof: Record, shape: Shape) -> Result<Record, LineFault>
@@ -89,17 +89,5 @@ fn declared(heading: Heading, mut proof: Record, last: Node) -> Result<Declarati
 fn judges(form: Form) -> bool
     ensures { result ≡ judges form }
 {
-    match form {
-        Form::SortAt
-        | Form::ConstAt
-        | Form::VarAt
-        | Form::Thin
-        | Form::PiAt
-        | Form::LamAt
-        | Form::AppAt
-        | Form::LetSort
-        | Form::LetAt
-        | Form::Conv => true,
-        _ => false,
-    }
+    matches!(form.kind(), FormKind::Judgement)
 }

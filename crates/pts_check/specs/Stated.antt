@@ -4,7 +4,7 @@ use Rattle.pts_terms.specs.Tree.{Bare}
 use Rattle.pts_ctx.specs.Front.{Local, defined, Locals}
 use Rattle.pts_record.specs.declared.shape.Node.{Node}
 use Rattle.pts_record.specs.Table.{Tables, bare_at}
-use Rattle.pts_record.specs.Said.{Said, judgement, is_judgement, is_comparison}
+use Rattle.pts_record.specs.Said.{Said, is_judgement, is_comparison}
 use Rattle.pts_rules.specs.Conditions.{Plain}
 
 abbrev pub stated : Tables → Node → Plain
@@ -13,11 +13,6 @@ stated r n = record { form = n.form; ctx = n.ctx; subject = bare_at r.shapes n.s
 -- The node has terms.
 abbrev pub has_statement : Said (Unit {0}) → Bool
 has_statement m = is_judgement m || is_comparison m
-
--- The terms of a judgement.
-abbrev pub statement_of : Said (Unit {0}) → Option (Bare × Bare)
-statement_of (judgement c s t T) = Some (t, T)
-statement_of _ = None
 
 -- The newest entry, where it is a definition.
 abbrev pub newest_definition : Locals → Option (Bare × Bare)

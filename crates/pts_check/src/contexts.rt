@@ -4,12 +4,12 @@ ghost use Rattle.std.specs.Prelude.{◌≡◌, ◌<◌, ◌≤◌, ◌+◌, ◌�
 ghost use Rattle.std.specs.Option.{option_map, option_and_then};
 ghost use Rattle.pts_ctx.specs.Front.{entry_at};
 ghost use Rattle.pts_record.specs.Table.{bare_at};
-ghost use Rattle.pts_record.specs.Said.{told, scope_of, assumed_by, defined_by};
+ghost use Rattle.pts_record.specs.Said.{told, scope_of};
 ghost use Rattle.pts_rules.specs.Parts.{is_assume_of, is_bare_of, is_assume_in, is_define_in, newest_assumption, type_of, distance};
-ghost use Rattle.pts_check.specs.Stated.{statement_of, newest_definition, definition_of};
+ghost use Rattle.pts_check.specs.Stated.{newest_definition, definition_of};
 
-use crate::nodes::{Terms, context_of, place_of, terms_of};
-use pts_record::{Form, Record};
+use crate::nodes::{context_of, place_of};
+use pts_record::{Form, LocalEntry, Record, Terms};
 
 /// Whether the context that a node speaks of was made by `assume` from that judgement.
 pub(crate) fn is_assume_of(proof: &Record, premise: usize, number: usize) -> bool
@@ -59,19 +59,6 @@ pub(crate) fn is_define_in(proof: &Record, ctx: usize, number: usize) -> bool
     }
 }
 
-// The terms of a node that is a judgement.
-fn judgement_terms(proof: &Record, number: usize) -> Option<Terms>
-    requires { number < length proof.now.nodes }
-    ensures stand { IfSome result (λ t. (t.subject < length proof.now.shapes) × (t.claim < length proof.now.shapes)) }
-    ensures terms { option_map (λ t. (bare_at proof.now.shapes t.subject, bare_at proof.now.shapes t.claim)) result ≡ statement_of (told proof.now number) }
-{
-    if proof.is_judgement(number) {
-        Some(terms_of(proof, number))
-    } else {
-        None
-    }
-}
-
 /// The type of the newest entry of the context that a node speaks of, where that is an assumption.
 pub(crate) fn newest_assumption(proof: &Record, number: usize) -> Option<usize>
     requires { number < length proof.now.nodes }
@@ -80,7 +67,7 @@ pub(crate) fn newest_assumption(proof: &Record, number: usize) -> Option<usize>
 {
     let node = proof.node(context_of(proof, number));
     match node.form {
-        Form::Assume => match judgement_terms(proof, node.first) {
+        Form::Assume => match proof.judged(node.first) {
             Some(terms) => Some(terms.subject),
             None => None,
         },
@@ -96,7 +83,7 @@ pub(crate) fn newest_definition(proof: &Record, number: usize) -> Option<Terms>
 {
     let node = proof.node(context_of(proof, number));
     match node.form {
-        Form::Define => judgement_terms(proof, node.first),
+        Form::Define => proof.judged(node.first),
         _ => None,
     }
 }
@@ -107,86 +94,9 @@ pub(crate) fn type_at(proof: &Record, ctx: usize, index: u32) -> Option<usize>
     ensures stands { IfSome result (λ t. t < length proof.now.shapes) }
     ensures ty { option_map (bare_at proof.now.shapes) result ≡ option_and_then type_of (entry_at (scope_of (told proof.now ctx)).entries index) }
 {
-    let mut at = ctx;
-    let mut left = index;
-    'walk: loop {
-        let node = proof.node(at);
-        match node.form {
-            Form::Empty => return None,
-            Form::Assume => {
-                if left == 0 {
-                    return subject_at(proof, node.first);
-                }
-                left -= 1;
-                at = node.first;
-            }
-            Form::Define => {
-                if left == 0 {
-                    return claim_at(proof, node.first);
-                }
-                left -= 1;
-                at = node.first;
-            }
-            Form::Bare => {
-                if left == 0 {
-                    return None;
-                }
-                left -= 1;
-                at = node.ctx;
-            }
-            Form::SortAt
-            | Form::ConstAt
-            | Form::VarAt
-            | Form::Thin
-            | Form::PiAt
-            | Form::LamAt
-            | Form::AppAt
-            | Form::LetSort
-            | Form::LetAt
-            | Form::Conv
-            | Form::Same
-            | Form::Left
-            | Form::Right
-            | Form::CongApp
-            | Form::CongLam
-            | Form::CongPi => at = node.ctx,
-        }
-    }
-}
-
-// The type of the entry that `assume` makes from a node.
-fn subject_at(proof: &Record, number: usize) -> Option<usize>
-    requires { number < length proof.now.nodes }
-    ensures stands { IfSome result (λ t. t < length proof.now.shapes) }
-    ensures ty { option_map (bare_at proof.now.shapes) result ≡ type_of (assumed_by (told proof.now number)) }
-{
-    match judgement_terms(proof, number) {
-        Some(terms) => Some(terms.subject),
-        None => None,
-    }
-}
-
-// The type of the entry that `define` makes from a node.
-fn claim_at(proof: &Record, number: usize) -> Option<usize>
-    requires { number < length proof.now.nodes }
-    ensures stands { IfSome result (λ t. t < length proof.now.shapes) }
-    ensures ty { option_map (bare_at proof.now.shapes) result ≡ type_of (defined_by (told proof.now number)) }
-{
-    match judgement_terms(proof, number) {
-        Some(terms) => Some(terms.claim),
-        None => None,
-    }
-}
-
-// The definition of the entry that `define` makes from a node.
-fn definition_at(proof: &Record, number: usize) -> Option<usize>
-    requires { number < length proof.now.nodes }
-    ensures stands { IfSome result (λ t. t < length proof.now.shapes) }
-    ensures definition { option_map (bare_at proof.now.shapes) result ≡ definition_of (defined_by (told proof.now number)) }
-{
-    match judgement_terms(proof, number) {
-        Some(terms) => Some(terms.subject),
-        None => None,
+    match proof.entry(ctx, index)? {
+        LocalEntry::Assumed(ty) | LocalEntry::Defined(_, ty) => Some(ty),
+        LocalEntry::Unknown => None,
     }
 }
 
@@ -196,50 +106,9 @@ pub(crate) fn definition_of(proof: &Record, ctx: usize, index: u32) -> Option<us
     ensures stands { IfSome result (λ t. t < length proof.now.shapes) }
     ensures definition { option_map (bare_at proof.now.shapes) result ≡ option_and_then definition_of (entry_at (scope_of (told proof.now ctx)).entries index) }
 {
-    let mut at = ctx;
-    let mut left = index;
-    'walk: loop {
-        let node = proof.node(at);
-        match node.form {
-            Form::Empty => return None,
-            Form::Assume => {
-                if left == 0 {
-                    return None;
-                }
-                left -= 1;
-                at = node.first;
-            }
-            Form::Define => {
-                if left == 0 {
-                    return definition_at(proof, node.first);
-                }
-                left -= 1;
-                at = node.first;
-            }
-            Form::Bare => {
-                if left == 0 {
-                    return None;
-                }
-                left -= 1;
-                at = node.ctx;
-            }
-            Form::SortAt
-            | Form::ConstAt
-            | Form::VarAt
-            | Form::Thin
-            | Form::PiAt
-            | Form::LamAt
-            | Form::AppAt
-            | Form::LetSort
-            | Form::LetAt
-            | Form::Conv
-            | Form::Same
-            | Form::Left
-            | Form::Right
-            | Form::CongApp
-            | Form::CongLam
-            | Form::CongPi => at = node.ctx,
-        }
+    match proof.entry(ctx, index)? {
+        LocalEntry::Defined(body, _) => Some(body),
+        LocalEntry::Assumed(_) | LocalEntry::Unknown => None,
     }
 }
 
@@ -274,22 +143,7 @@ pub(crate) fn distance(proof: &Record, ctx: usize, premise: usize) -> Option<u64
                 passed += 1;
                 at = node.ctx;
             }
-            Form::SortAt
-            | Form::ConstAt
-            | Form::VarAt
-            | Form::Thin
-            | Form::PiAt
-            | Form::LamAt
-            | Form::AppAt
-            | Form::LetSort
-            | Form::LetAt
-            | Form::Conv
-            | Form::Same
-            | Form::Left
-            | Form::Right
-            | Form::CongApp
-            | Form::CongLam
-            | Form::CongPi => at = node.ctx,
+            _ => at = node.ctx,
         }
     }
 }

@@ -7,39 +7,14 @@ ghost use Rattle.pts_record.specs.Said.{told, scope_of, place_of, subject_of, cl
 ghost use Rattle.pts_rules.specs.Parts.{is_typed_context, is_in, is_assume_of, is_bare_of, is_assume_in, is_define_in, sort_in};
 ghost use Rattle.pts_check.specs.Stated.{has_statement};
 
-use pts_record::{Form, Record, Shape, Sort};
-
-/// The terms of a judgement or of a comparison, by their numbers.
-#[derive(Clone, Copy)]
-pub(crate) struct Terms {
-    pub subject: usize,
-    pub claim: usize,
-}
+use pts_record::{FormKind, Record, Shape, Sort, Terms};
 
 /// Whether a node is a context.
 pub(crate) fn is_context(proof: &Record, number: usize) -> bool
     requires { number < length proof.now.nodes }
     ensures { result ≡ is_context (told proof.now number) }
 {
-    match proof.node(number).form {
-        Form::Empty | Form::Assume | Form::Define | Form::Bare => true,
-        Form::SortAt
-        | Form::ConstAt
-        | Form::VarAt
-        | Form::Thin
-        | Form::PiAt
-        | Form::LamAt
-        | Form::AppAt
-        | Form::LetSort
-        | Form::LetAt
-        | Form::Conv
-        | Form::Same
-        | Form::Left
-        | Form::Right
-        | Form::CongApp
-        | Form::CongLam
-        | Form::CongPi => false,
-    }
+    matches!(proof.node(number).form.kind(), FormKind::Context)
 }
 
 /// Whether a node is a context without a bare entry.
@@ -55,21 +30,7 @@ pub(crate) fn is_comparison(proof: &Record, number: usize) -> bool
     requires { number < length proof.now.nodes }
     ensures { result ≡ is_comparison (told proof.now number) }
 {
-    match proof.node(number).form {
-        Form::Empty | Form::Assume | Form::Define | Form::Bare => false,
-        Form::SortAt
-        | Form::ConstAt
-        | Form::VarAt
-        | Form::Thin
-        | Form::PiAt
-        | Form::LamAt
-        | Form::AppAt
-        | Form::LetSort
-        | Form::LetAt
-        | Form::Conv => false,
-        Form::Same | Form::Left | Form::Right | Form::CongApp | Form::CongLam | Form::CongPi =>
-            true,
-    }
+    matches!(proof.node(number).form.kind(), FormKind::Comparison)
 }
 
 /// The number of the context that a judgement or a comparison is in; 0 of a context.
@@ -78,24 +39,9 @@ pub(crate) fn place_of(proof: &Record, number: usize) -> usize
     ensures { result ≡ place_of (told proof.now number) }
 {
     let node = proof.node(number);
-    match node.form {
-        Form::Empty | Form::Assume | Form::Define | Form::Bare => 0,
-        Form::SortAt
-        | Form::ConstAt
-        | Form::VarAt
-        | Form::Thin
-        | Form::PiAt
-        | Form::LamAt
-        | Form::AppAt
-        | Form::LetSort
-        | Form::LetAt
-        | Form::Conv
-        | Form::Same
-        | Form::Left
-        | Form::Right
-        | Form::CongApp
-        | Form::CongLam
-        | Form::CongPi => node.ctx,
+    match node.form.kind() {
+        FormKind::Context => 0,
+        FormKind::Judgement | FormKind::Comparison => node.ctx,
     }
 }
 
@@ -116,24 +62,9 @@ pub(crate) fn terms_of(proof: &Record, number: usize) -> Terms
     ensures stand { (result.subject < length proof.now.shapes) × (result.claim < length proof.now.shapes) }
 {
     let node = proof.node(number);
-    match node.form {
-        Form::Empty | Form::Assume | Form::Define | Form::Bare => unreachable!(),
-        Form::SortAt
-        | Form::ConstAt
-        | Form::VarAt
-        | Form::Thin
-        | Form::PiAt
-        | Form::LamAt
-        | Form::AppAt
-        | Form::LetSort
-        | Form::LetAt
-        | Form::Conv
-        | Form::Same
-        | Form::Left
-        | Form::Right
-        | Form::CongApp
-        | Form::CongLam
-        | Form::CongPi => Terms {
+    match node.form.kind() {
+        FormKind::Context => unreachable!(),
+        FormKind::Judgement | FormKind::Comparison => Terms {
             subject: node.subject,
             claim: node.claim,
         },
@@ -150,24 +81,9 @@ pub(crate) fn context_of(proof: &Record, number: usize) -> usize
     let mut at = number;
     'walk: loop {
         let node = proof.node(at);
-        match node.form {
-            Form::Empty | Form::Assume | Form::Define | Form::Bare => return at,
-            Form::SortAt
-            | Form::ConstAt
-            | Form::VarAt
-            | Form::Thin
-            | Form::PiAt
-            | Form::LamAt
-            | Form::AppAt
-            | Form::LetSort
-            | Form::LetAt
-            | Form::Conv
-            | Form::Same
-            | Form::Left
-            | Form::Right
-            | Form::CongApp
-            | Form::CongLam
-            | Form::CongPi => at = node.ctx,
+        match node.form.kind() {
+            FormKind::Context => return at,
+            FormKind::Judgement | FormKind::Comparison => at = node.ctx,
         }
     }
 }

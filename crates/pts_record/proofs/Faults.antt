@@ -5,7 +5,7 @@ use Rattle.std.proofs.lemmas.Bool.Decides.{nat_tests}
 use Rattle.pts_terms.specs.Tree.{Bare}
 use Rattle.pts_terms.specs.Limits.{within, depth_of, size_of}
 use Rattle.pts_record.specs.declared.shape.Form.{Form}
-use Rattle.pts_record.specs.declared.shape.Form.TheVariants.{Empty, Assume, Define, Bare as BareForm, SortAt, ConstAt, VarAt, Thin, PiAt, LamAt, AppAt, LetSort, LetAt, Conv, Same, Left, Right, CongApp, CongLam, CongPi}
+use Rattle.pts_record.specs.declared.shape.Form.TheVariants.{Empty}
 use Rattle.pts_record.specs.declared.shape.Shape.{Shape}
 use Rattle.pts_record.specs.declared.shape.Node.{Node}
 use Rattle.pts_record.specs.declared.shape.RecordFault.{RecordFault}
@@ -31,47 +31,11 @@ none_wrong n k (l ∷ ls) e = let p = passed n k l ls e in (p.0, none_wrong n (s
 
 pub links_of_kept : (f : Form) (c p q w : ℕ) → contexts_as f (number_in (contexts_as f c) 0) ++ premises_as f (number_in (premises_as f p q w) 0) (number_in (premises_as f p q w) 1) (number_in (premises_as f p q w) 2) ≡ contexts_as f c ++ premises_as f p q w
 links_of_kept Empty c p q w = refl
-links_of_kept Assume c p q w = refl
-links_of_kept Define c p q w = refl
-links_of_kept BareForm c p q w = refl
-links_of_kept SortAt c p q w = refl
-links_of_kept ConstAt c p q w = refl
-links_of_kept VarAt c p q w = refl
-links_of_kept Thin c p q w = refl
-links_of_kept PiAt c p q w = refl
-links_of_kept LamAt c p q w = refl
-links_of_kept AppAt c p q w = refl
-links_of_kept LetSort c p q w = refl
-links_of_kept LetAt c p q w = refl
-links_of_kept Conv c p q w = refl
-links_of_kept Same c p q w = refl
-links_of_kept Left c p q w = refl
-links_of_kept Right c p q w = refl
-links_of_kept CongApp c p q w = refl
-links_of_kept CongLam c p q w = refl
-links_of_kept CongPi c p q w = refl
+links_of_kept _ c p q w = refl
 
 pub terms_of_kept : (f : Form) (t u : ℕ) → terms_as f (number_in (terms_as f t u) 0) (number_in (terms_as f t u) 1) ≡ terms_as f t u
 terms_of_kept Empty t u = refl
-terms_of_kept Assume t u = refl
-terms_of_kept Define t u = refl
-terms_of_kept BareForm t u = refl
-terms_of_kept SortAt t u = refl
-terms_of_kept ConstAt t u = refl
-terms_of_kept VarAt t u = refl
-terms_of_kept Thin t u = refl
-terms_of_kept PiAt t u = refl
-terms_of_kept LamAt t u = refl
-terms_of_kept AppAt t u = refl
-terms_of_kept LetSort t u = refl
-terms_of_kept LetAt t u = refl
-terms_of_kept Conv t u = refl
-terms_of_kept Same t u = refl
-terms_of_kept Left t u = refl
-terms_of_kept Right t u = refl
-terms_of_kept CongApp t u = refl
-terms_of_kept CongLam t u = refl
-terms_of_kept CongPi t u = refl
+terms_of_kept _ t u = refl
 
 pub below_both : (n : ℕ) (ks ls : List ℕ) → AllBelow n ks → AllBelow n ls → AllBelow n (ks ++ ls)
 below_both n [] ls a b = b

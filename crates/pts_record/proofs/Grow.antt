@@ -4,7 +4,7 @@ use Rattle.std.proofs.lemmas.List.{map-append, get_or_append_left, get_or_push}
 use Rattle.pts_terms.specs.Tree.{Tree, Bare}
 use Rattle.pts_terms.specs.Limits.{within}
 use Rattle.pts_record.specs.declared.shape.Form.{Form}
-use Rattle.pts_record.specs.declared.shape.Form.TheVariants.{Empty, Assume, Define, Bare as BareForm, SortAt, ConstAt, VarAt, Thin, PiAt, LamAt, AppAt, LetSort, LetAt, Conv, Same, Left, Right, CongApp, CongLam, CongPi}
+use Rattle.pts_record.specs.declared.shape.Form.TheVariants.{Empty, Assume, Define, Bare as BareForm}
 use Rattle.pts_record.specs.declared.shape.Shape.{Shape}
 use Rattle.pts_record.specs.declared.measure.Measure.{Measure}
 use Rattle.pts_record.specs.declared.shape.Node.{Node}
@@ -30,22 +30,7 @@ line_same ts us Empty t u n c p q w b e = refl
 line_same ts us Assume t u n c p q w b e = refl
 line_same ts us Define t u n c p q w b e = refl
 line_same ts us BareForm t u n c p q w b e = refl
-line_same ts us SortAt t u n c p q w b e = let x = e t b.0 in let y = e u b.1.0 in cc
-line_same ts us ConstAt t u n c p q w b e = let x = e t b.0 in let y = e u b.1.0 in cc
-line_same ts us VarAt t u n c p q w b e = let x = e t b.0 in let y = e u b.1.0 in cc
-line_same ts us Thin t u n c p q w b e = let x = e t b.0 in let y = e u b.1.0 in cc
-line_same ts us PiAt t u n c p q w b e = let x = e t b.0 in let y = e u b.1.0 in cc
-line_same ts us LamAt t u n c p q w b e = let x = e t b.0 in let y = e u b.1.0 in cc
-line_same ts us AppAt t u n c p q w b e = let x = e t b.0 in let y = e u b.1.0 in cc
-line_same ts us LetSort t u n c p q w b e = let x = e t b.0 in let y = e u b.1.0 in cc
-line_same ts us LetAt t u n c p q w b e = let x = e t b.0 in let y = e u b.1.0 in cc
-line_same ts us Conv t u n c p q w b e = let x = e t b.0 in let y = e u b.1.0 in cc
-line_same ts us Same t u n c p q w b e = let x = e t b.0 in let y = e u b.1.0 in cc
-line_same ts us Left t u n c p q w b e = let x = e t b.0 in let y = e u b.1.0 in cc
-line_same ts us Right t u n c p q w b e = let x = e t b.0 in let y = e u b.1.0 in cc
-line_same ts us CongApp t u n c p q w b e = let x = e t b.0 in let y = e u b.1.0 in cc
-line_same ts us CongLam t u n c p q w b e = let x = e t b.0 in let y = e u b.1.0 in cc
-line_same ts us CongPi t u n c p q w b e = let x = e t b.0 in let y = e u b.1.0 in cc
+line_same ts us _ t u n c p q w b e = let x = e t b.0 in let y = e u b.1.0 in cc
 
 pub lines_same : {B : Type 0} (ts us : List (Tree B)) (ns : List Node) (n k : ℕ) → NodesLinked n k ns → ((i : ℕ) → i < n → at ts i ≡ at us i) → map (row_of_node ts) ns ≡ map (row_of_node us) ns
 lines_same ts us [] n k b e = refl

@@ -18,7 +18,7 @@ use Rattle.pts_record.proofs.Values.{values_long}
 use Rattle.pts_record.proofs.Faults.{within_bounds}
 use Rattle.pts_terms.specs.Limits.{within, depth_of, size_of}
 use Rattle.pts_record.specs.declared.shape.Form.{Form}
-use Rattle.pts_record.specs.declared.shape.Form.TheVariants.{Empty, Assume, Define, Bare as BareForm, SortAt, ConstAt, VarAt, Thin, PiAt, LamAt, AppAt, LetSort, LetAt, Conv, Same, Left, Right, CongApp, CongLam, CongPi}
+use Rattle.pts_record.specs.declared.shape.Form.TheVariants.{Empty, Assume, Define}
 use Rattle.pts_record.specs.Table.{contexts_as, premises_as}
 use Rattle.pts_record.specs.Said.{scope_of}
 use Rattle.pts_record.proofs.Told.{Plain, Link}
@@ -114,23 +114,7 @@ say_long : (f : Form) (k : ℕ) (l : Plain) (c p : Link) (x y z w : ℕ) → All
 say_long Empty k l c p x y z w b e g = omega arith
 say_long Assume k l c p x y z w b e g = let h : y < k = b.0 in omega (arith, h, g h)
 say_long Define k l c p x y z w b e g = let h : y < k = b.0 in omega (arith, h, g h)
-say_long BareForm k l c p x y z w b e g = let h : x < k = b.0 in omega (arith, h, e h)
-say_long SortAt k l c p x y z w b e g = let h : x < k = b.0 in omega (arith, h, e h)
-say_long ConstAt k l c p x y z w b e g = let h : x < k = b.0 in omega (arith, h, e h)
-say_long VarAt k l c p x y z w b e g = let h : x < k = b.0 in omega (arith, h, e h)
-say_long Thin k l c p x y z w b e g = let h : x < k = b.0 in omega (arith, h, e h)
-say_long PiAt k l c p x y z w b e g = let h : x < k = b.0 in omega (arith, h, e h)
-say_long LamAt k l c p x y z w b e g = let h : x < k = b.0 in omega (arith, h, e h)
-say_long AppAt k l c p x y z w b e g = let h : x < k = b.0 in omega (arith, h, e h)
-say_long LetSort k l c p x y z w b e g = let h : x < k = b.0 in omega (arith, h, e h)
-say_long LetAt k l c p x y z w b e g = let h : x < k = b.0 in omega (arith, h, e h)
-say_long Conv k l c p x y z w b e g = let h : x < k = b.0 in omega (arith, h, e h)
-say_long Same k l c p x y z w b e g = let h : x < k = b.0 in omega (arith, h, e h)
-say_long Left k l c p x y z w b e g = let h : x < k = b.0 in omega (arith, h, e h)
-say_long Right k l c p x y z w b e g = let h : x < k = b.0 in omega (arith, h, e h)
-say_long CongApp k l c p x y z w b e g = let h : x < k = b.0 in omega (arith, h, e h)
-say_long CongLam k l c p x y z w b e g = let h : x < k = b.0 in omega (arith, h, e h)
-say_long CongPi k l c p x y z w b e g = let h : x < k = b.0 in omega (arith, h, e h)
+say_long _ k l c p x y z w b e g = let h : x < k = b.0 in omega (arith, h, e h)
 
 get_or_any : (ns : List Node) (k : ℕ) (d e : Node) → k < length ns → get_or ns k d ≡ get_or ns k e
 get_or_any [] k d e h = absurd (omega (arith, h))

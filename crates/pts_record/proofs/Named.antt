@@ -4,7 +4,7 @@ use Rattle.std.proofs.lemmas.List.{map-append}
 use Rattle.pts_terms.specs.Tree.{Named, bare}
 use Rattle.pts_record.specs.declared.shape.Shape.{Shape}
 use Rattle.pts_record.specs.declared.shape.Form.{Form}
-use Rattle.pts_record.specs.declared.shape.Form.TheVariants.{Empty, Assume, Define, Bare as BareForm, SortAt, ConstAt, VarAt, Thin, PiAt, LamAt, AppAt, LetSort, LetAt, Conv, Same, Left, Right, CongApp, CongLam, CongPi}
+use Rattle.pts_record.specs.declared.shape.Form.TheVariants.{Empty, Assume, Define, Bare as BareForm}
 use Rattle.pts_record.specs.declared.shape.Node.{Node}
 use Rattle.pts_record.specs.Table.{Tables, named_trees, bare_trees}
 use Rattle.pts_record.specs.Said.{Row, row_of_node, named_lines_of, Said, nothing, context, judgement, comparison, look, say_as, say, said_behind, told, named_told, bare_local, bare_scope, bare_said, scope_of, place_of, assumed_by, defined_by}
@@ -42,23 +42,7 @@ say_as_bare : {B : Type 0} (f : Form) (k : ℕ) (l : Row B) (c p : Said B) → s
 say_as_bare Empty k l c p = refl
 say_as_bare Assume k l c p = rw (scope_bare p, place_bare p, assumed_bare p) refl
 say_as_bare Define k l c p = rw (scope_bare p, place_bare p, defined_bare p) refl
-say_as_bare BareForm k l c p = rw (scope_bare c) refl
-say_as_bare SortAt k l c p = rw (scope_bare c) refl
-say_as_bare ConstAt k l c p = rw (scope_bare c) refl
-say_as_bare VarAt k l c p = rw (scope_bare c) refl
-say_as_bare Thin k l c p = rw (scope_bare c) refl
-say_as_bare PiAt k l c p = rw (scope_bare c) refl
-say_as_bare LamAt k l c p = rw (scope_bare c) refl
-say_as_bare AppAt k l c p = rw (scope_bare c) refl
-say_as_bare LetSort k l c p = rw (scope_bare c) refl
-say_as_bare LetAt k l c p = rw (scope_bare c) refl
-say_as_bare Conv k l c p = rw (scope_bare c) refl
-say_as_bare Same k l c p = rw (scope_bare c) refl
-say_as_bare Left k l c p = rw (scope_bare c) refl
-say_as_bare Right k l c p = rw (scope_bare c) refl
-say_as_bare CongApp k l c p = rw (scope_bare c) refl
-say_as_bare CongLam k l c p = rw (scope_bare c) refl
-say_as_bare CongPi k l c p = rw (scope_bare c) refl
+say_as_bare _ k l c p = rw (scope_bare c) refl
 
 look_bare : {B : Type 0} (ms : List (Said B)) (k : ℕ) → look (map bare_said ms) k ≡ bare_said (look ms k)
 look_bare [] k = refl
@@ -88,22 +72,7 @@ line_as_bare ts Empty c t u p q w = refl
 line_as_bare ts Assume c t u p q w = refl
 line_as_bare ts Define c t u p q w = refl
 line_as_bare ts BareForm c t u p q w = refl
-line_as_bare ts SortAt c t u p q w = rw (at_bare ts t, at_bare ts u) refl
-line_as_bare ts ConstAt c t u p q w = rw (at_bare ts t, at_bare ts u) refl
-line_as_bare ts VarAt c t u p q w = rw (at_bare ts t, at_bare ts u) refl
-line_as_bare ts Thin c t u p q w = rw (at_bare ts t, at_bare ts u) refl
-line_as_bare ts PiAt c t u p q w = rw (at_bare ts t, at_bare ts u) refl
-line_as_bare ts LamAt c t u p q w = rw (at_bare ts t, at_bare ts u) refl
-line_as_bare ts AppAt c t u p q w = rw (at_bare ts t, at_bare ts u) refl
-line_as_bare ts LetSort c t u p q w = rw (at_bare ts t, at_bare ts u) refl
-line_as_bare ts LetAt c t u p q w = rw (at_bare ts t, at_bare ts u) refl
-line_as_bare ts Conv c t u p q w = rw (at_bare ts t, at_bare ts u) refl
-line_as_bare ts Same c t u p q w = rw (at_bare ts t, at_bare ts u) refl
-line_as_bare ts Left c t u p q w = rw (at_bare ts t, at_bare ts u) refl
-line_as_bare ts Right c t u p q w = rw (at_bare ts t, at_bare ts u) refl
-line_as_bare ts CongApp c t u p q w = rw (at_bare ts t, at_bare ts u) refl
-line_as_bare ts CongLam c t u p q w = rw (at_bare ts t, at_bare ts u) refl
-line_as_bare ts CongPi c t u p q w = rw (at_bare ts t, at_bare ts u) refl
+line_as_bare ts _ c t u p q w = rw (at_bare ts t, at_bare ts u) refl
 
 lines_bare : (ts : List Named) (ns : List Node) → map (row_of_node (map bare ts)) ns ≡ map bare_line (map (row_of_node ts) ns)
 lines_bare ts [] = refl

@@ -4,7 +4,7 @@ use Rattle.std.specs.Prelude.{slice_get, Some}
 use Rattle.std.proofs.lemmas.Option.{slice_get-get_or}
 use Rattle.pts_terms.specs.Tree.{Tree}
 use Rattle.pts_record.specs.declared.shape.Form.{Form}
-use Rattle.pts_record.specs.declared.shape.Form.TheVariants.{Empty, Assume, Define, Bare as BareForm, SortAt, ConstAt, VarAt, Thin, PiAt, LamAt, AppAt, LetSort, LetAt, Conv, Same, Left, Right, CongApp, CongLam, CongPi}
+use Rattle.pts_record.specs.declared.shape.Form.TheVariants.{Empty, Assume, Define}
 use Rattle.pts_record.specs.declared.shape.Node.{Node}
 use Rattle.pts_record.specs.Table.{Tables, bare_trees, named_trees, AllBelow, contexts_as, premises_as, node_links}
 use Rattle.pts_record.specs.Said.{Row, row_of_node, rows_of, Said, nothing, look, say_as, say, said_behind, told, named_told}
@@ -21,23 +21,7 @@ pub say_by_links : {B : Type 0} (f : Form) (k : ℕ) (l : Row B) (c p d q : Said
 say_by_links Empty k l c p d q n x y z w b e g = refl
 say_by_links Assume k l c p d q n x y z w b e g = let h = g b.0 in cc
 say_by_links Define k l c p d q n x y z w b e g = let h = g b.0 in cc
-say_by_links BareForm k l c p d q n x y z w b e g = let h = e b.0 in cc
-say_by_links SortAt k l c p d q n x y z w b e g = let h = e b.0 in cc
-say_by_links ConstAt k l c p d q n x y z w b e g = let h = e b.0 in cc
-say_by_links VarAt k l c p d q n x y z w b e g = let h = e b.0 in cc
-say_by_links Thin k l c p d q n x y z w b e g = let h = e b.0 in cc
-say_by_links PiAt k l c p d q n x y z w b e g = let h = e b.0 in cc
-say_by_links LamAt k l c p d q n x y z w b e g = let h = e b.0 in cc
-say_by_links AppAt k l c p d q n x y z w b e g = let h = e b.0 in cc
-say_by_links LetSort k l c p d q n x y z w b e g = let h = e b.0 in cc
-say_by_links LetAt k l c p d q n x y z w b e g = let h = e b.0 in cc
-say_by_links Conv k l c p d q n x y z w b e g = let h = e b.0 in cc
-say_by_links Same k l c p d q n x y z w b e g = let h = e b.0 in cc
-say_by_links Left k l c p d q n x y z w b e g = let h = e b.0 in cc
-say_by_links Right k l c p d q n x y z w b e g = let h = e b.0 in cc
-say_by_links CongApp k l c p d q n x y z w b e g = let h = e b.0 in cc
-say_by_links CongLam k l c p d q n x y z w b e g = let h = e b.0 in cc
-say_by_links CongPi k l c p d q n x y z w b e g = let h = e b.0 in cc
+say_by_links _ k l c p d q n x y z w b e g = let h = e b.0 in cc
 
 lines_length : {B : Type 0} (ts : List (Tree B)) (ns : List Node) → length (map (row_of_node ts) ns) ≡ length ns
 lines_length ts [] = refl

@@ -1,21 +1,26 @@
 -- What each node of a record says: a local context, a judgement or a comparison.
-use Rattle.std.specs.Prelude.{ℕ, List, [], ◌∷◌, length, slice_index_or, map, Bool, true, false, if◌then◌else◌}
+use Rattle.std.specs.Prelude.{ℕ, List, [], ◌∷◌, length, slice_index_or, map, Bool, true, false, if◌then◌else◌, Option, Some, None}
 use Rattle.pts_names.specs.Name.{Name}
 use Rattle.pts_terms.specs.Tree.{Tree, sort, bare}
 use Rattle.pts_ctx.specs.Front.{Local, assumed, defined, unknown}
-use Rattle.pts_record.specs.Table.{Tables, at, bare_trees, named_trees, values_behind}
+use Rattle.pts_record.specs.Table.{Tables, at, bare_trees, named_trees, values_behind, kind_of}
 use Rattle.pts_record.specs.declared.shape.Form.{Form}
-use Rattle.pts_record.specs.declared.shape.Form.TheVariants.{Empty, Assume, Define, Bare as BareForm, Same, Left, Right, CongApp, CongLam, CongPi}
+use Rattle.pts_record.specs.declared.shape.Form.TheVariants.{Assume, Define, Bare as BareForm}
+use Rattle.pts_record.specs.declared.shape.FormKind.{FormKind}
+use Rattle.pts_record.specs.declared.shape.FormKind.TheVariants.{Context, Judgement, Comparison}
 use Rattle.pts_record.specs.declared.shape.Node.{Node}
 use Rattle.pts_record.specs.declared.shape.Extent.{Extent}
+use Rattle.pts_record.specs.declared.entry.LocalEntry.{LocalEntry}
+use Rattle.pts_record.specs.declared.entry.LocalEntry.TheVariants.{Assumed, Defined, Unknown}
 
 -- A context has no terms of its own.
+abbrev pub kind_has_terms : FormKind → Bool
+kind_has_terms Context = false
+kind_has_terms Judgement = true
+kind_has_terms Comparison = true
+
 abbrev pub has_terms : Form → Bool
-has_terms Empty = false
-has_terms Assume = false
-has_terms Define = false
-has_terms BareForm = false
-has_terms _ = true
+has_terms f = kind_has_terms (kind_of f)
 
 -- A node with the trees of its terms; those of a context say nothing.
 pub record Row (B : Type 0) : Type 0 where
@@ -103,6 +108,11 @@ claim_of (context s) = sort 0
 claim_of (judgement c s t T) = T
 claim_of (comparison c s t u) = u
 
+-- The two terms of a judgement.
+abbrev pub statement_of : {B : Type 0} → Said B → Option (Tree B × Tree B)
+statement_of (judgement c s t T) = Some (t, T)
+statement_of _ = None
+
 -- The entry that is made from a judgement. Of what is no judgement nothing is known.
 abbrev pub assumed_by : {B : Type 0} → Said B → Local B
 assumed_by (judgement c s t T) = assumed t
@@ -116,19 +126,22 @@ defined_by _ = unknown
 abbrev pub longer : {B : Type 0} → ℕ → Made → Local B → Scope B → Scope B
 longer k made e s = record { made = made; entries = e ∷ s.entries; trail = k ∷ s.trail }
 
--- What the line with number k says, where c and p are what its links ctx and first say.
+-- The context that the line with number k makes, where c and p are what its links ctx and first say. Only a line
+-- that is a context is asked for it.
+abbrev pub made_by : {B : Type 0} → Form → ℕ → Row B → (c p : Said B) → Scope B
+made_by Assume k l c p = longer k (by_assume l.first (place_of p)) (assumed_by p) (scope_of p)
+made_by Define k l c p = longer k (by_define l.first (place_of p)) (defined_by p) (scope_of p)
+made_by BareForm k l c p = longer k (by_bare l.ctx) unknown (scope_of c)
+made_by _ k l c p = record { made = by_empty; entries = []; trail = k ∷ [] }
+
+-- What that line says: by its kind, a context, or its two terms in the context of its link ctx.
+abbrev pub say_of_kind : {B : Type 0} → FormKind → Form → ℕ → Row B → (c p : Said B) → Said B
+say_of_kind Context f k l c p = context (made_by f k l c p)
+say_of_kind Judgement f k l c p = judgement l.ctx (scope_of c) l.subject l.claim
+say_of_kind Comparison f k l c p = comparison l.ctx (scope_of c) l.subject l.claim
+
 abbrev pub say_as : {B : Type 0} → Form → ℕ → Row B → (c p : Said B) → Said B
-say_as Empty k l c p = context (record { made = by_empty; entries = []; trail = k ∷ [] })
-say_as Assume k l c p = context (longer k (by_assume l.first (place_of p)) (assumed_by p) (scope_of p))
-say_as Define k l c p = context (longer k (by_define l.first (place_of p)) (defined_by p) (scope_of p))
-say_as BareForm k l c p = context (longer k (by_bare l.ctx) unknown (scope_of c))
-say_as Same k l c p = comparison l.ctx (scope_of c) l.subject l.claim
-say_as Left k l c p = comparison l.ctx (scope_of c) l.subject l.claim
-say_as Right k l c p = comparison l.ctx (scope_of c) l.subject l.claim
-say_as CongApp k l c p = comparison l.ctx (scope_of c) l.subject l.claim
-say_as CongLam k l c p = comparison l.ctx (scope_of c) l.subject l.claim
-say_as CongPi k l c p = comparison l.ctx (scope_of c) l.subject l.claim
-say_as _ k l c p = judgement l.ctx (scope_of c) l.subject l.claim
+say_as f k l c p = say_of_kind (kind_of f) f k l c p
 
 abbrev pub say : {B : Type 0} → List (Said B) → Row B → Said B
 say ms l = say_as l.form (length ms) l (look ms l.ctx) (look ms l.first)
@@ -170,3 +183,15 @@ bare_said (comparison c s t u) = comparison c (bare_scope s) (bare t) (bare u)
 -- What is kept of the context that a node is or speaks of: how many entries it has, and whether it is typed.
 abbrev pub extent : {B : Type 0} → Said B → Extent
 extent m = record { length = length (scope_of m).entries; typed = all_known (scope_of m).entries }
+
+-- The entry of a local context whose terms have these numbers, by the trees of the terms.
+abbrev pub local_of : {B : Type 0} → List (Tree B) → LocalEntry → Local B
+local_of ts (Assumed A) = assumed (at ts A)
+local_of ts (Defined a A) = defined (at ts a) (at ts A)
+local_of ts Unknown = unknown
+
+-- The numbers of its terms.
+abbrev pub entry_terms : LocalEntry → List ℕ
+entry_terms (Assumed A) = A ∷ []
+entry_terms (Defined a A) = a ∷ A ∷ []
+entry_terms Unknown = []

@@ -8,6 +8,8 @@ use Rattle.pts_record.specs.declared.shape.Shape.TheVariants.{Sort, Const, Var, 
 use Rattle.pts_record.specs.declared.measure.Measure.{Measure}
 use Rattle.pts_record.specs.declared.shape.Form.{Form}
 use Rattle.pts_record.specs.declared.shape.Form.TheVariants.{Empty, Assume, Define, Bare as BareForm, SortAt, ConstAt, VarAt, Thin, PiAt, LamAt, AppAt, LetSort, LetAt, Conv, Same, Left, Right, CongApp, CongLam, CongPi}
+use Rattle.pts_record.specs.declared.shape.FormKind.{FormKind}
+use Rattle.pts_record.specs.declared.shape.FormKind.TheVariants.{Context, Judgement, Comparison}
 use Rattle.pts_record.specs.declared.shape.Node.{Node}
 use Rattle.pts_record.specs.declared.shape.RecordFault.{RecordFault}
 use Rattle.pts_record.specs.declared.shape.RecordFault.TheVariants.{Link, TooLarge, Memory}
@@ -79,6 +81,29 @@ abbrev pub ShapesLinked : ℕ → List Shape → Type 0
 ShapesLinked n [] = Unit {0}
 ShapesLinked n (s ∷ ss) = AllBelow n (shape_links s) × ShapesLinked (suc n) ss
 
+-- What a node of a form says.
+abbrev pub kind_of : Form → FormKind
+kind_of Empty = Context
+kind_of Assume = Context
+kind_of Define = Context
+kind_of BareForm = Context
+kind_of SortAt = Judgement
+kind_of ConstAt = Judgement
+kind_of VarAt = Judgement
+kind_of Thin = Judgement
+kind_of PiAt = Judgement
+kind_of LamAt = Judgement
+kind_of AppAt = Judgement
+kind_of LetSort = Judgement
+kind_of LetAt = Judgement
+kind_of Conv = Judgement
+kind_of Same = Comparison
+kind_of Left = Comparison
+kind_of Right = Comparison
+kind_of CongApp = Comparison
+kind_of CongLam = Comparison
+kind_of CongPi = Comparison
+
 -- The premises of a node of a form.
 abbrev pub premises_as : Form → (first second third : ℕ) → List ℕ
 premises_as Empty p q r = []
@@ -109,13 +134,14 @@ contexts_as Assume c = []
 contexts_as Define c = []
 contexts_as _ c = c ∷ []
 
--- The terms that a node of a form names. A context names none.
+-- The terms that a node names. A context names none.
+abbrev pub terms_of_kind : FormKind → (subject claim : ℕ) → List ℕ
+terms_of_kind Context t u = []
+terms_of_kind Judgement t u = t ∷ u ∷ []
+terms_of_kind Comparison t u = t ∷ u ∷ []
+
 abbrev pub terms_as : Form → (subject claim : ℕ) → List ℕ
-terms_as Empty t u = []
-terms_as Assume t u = []
-terms_as Define t u = []
-terms_as BareForm t u = []
-terms_as _ t u = t ∷ u ∷ []
+terms_as f t u = terms_of_kind (kind_of f) t u
 
 abbrev pub node_links : Node → List ℕ
 node_links n = contexts_as n.form n.ctx ++ premises_as n.form n.first n.second n.third

@@ -5,6 +5,7 @@
 
 mod compare;
 mod declaration;
+mod entry;
 mod hints;
 mod links;
 mod measure;
@@ -14,7 +15,8 @@ mod shape;
 mod tree;
 
 pub use declaration::Declaration;
+pub use entry::{LocalEntry, Terms};
 pub use measure::Measure;
 pub use pts_ctx::{Boxed, Name, Sort, Term};
 pub use record::Record;
-pub use shape::{Extent, Form, Node, RecordFault, Shape};
+pub use shape::{Extent, Form, FormKind, Node, RecordFault, Shape};

@@ -3,7 +3,7 @@
 ghost use Rattle.std.specs.Prelude.{◌≡◌, ◌∷◌, []};
 ghost use Rattle.pts_record.specs.Table.{first_wrong, shape_links, fields_before, contexts_as, term_links, premises_as, premises_from, kept_node};
 
-use crate::{Form, Node, RecordFault, Shape};
+use crate::{Form, FormKind, Node, RecordFault, Shape};
 
 fn one_fault(lines: usize, field: usize, link: usize) -> Option<RecordFault>
     ensures { result ≡ first_wrong lines field (link ∷ []) }
@@ -63,23 +63,7 @@ pub(crate) fn context_fault(nodes: usize, node: &Node) -> Option<RecordFault>
 {
     match node.form {
         Form::Empty | Form::Assume | Form::Define => None,
-        Form::Bare
-        | Form::SortAt
-        | Form::ConstAt
-        | Form::VarAt
-        | Form::Thin
-        | Form::PiAt
-        | Form::LamAt
-        | Form::AppAt
-        | Form::LetSort
-        | Form::LetAt
-        | Form::Conv
-        | Form::Same
-        | Form::Left
-        | Form::Right
-        | Form::CongApp
-        | Form::CongLam
-        | Form::CongPi => one_fault(nodes, 0, node.ctx),
+        _ => one_fault(nodes, 0, node.ctx),
     }
 }
 
@@ -87,24 +71,11 @@ pub(crate) fn context_fault(nodes: usize, node: &Node) -> Option<RecordFault>
 pub(crate) fn terms_fault(terms: usize, node: &Node) -> Option<RecordFault>
     ensures { result ≡ first_wrong terms 1 (term_links node.now) }
 {
-    match node.form {
-        Form::Empty | Form::Assume | Form::Define | Form::Bare => None,
-        Form::SortAt
-        | Form::ConstAt
-        | Form::VarAt
-        | Form::Thin
-        | Form::PiAt
-        | Form::LamAt
-        | Form::AppAt
-        | Form::LetSort
-        | Form::LetAt
-        | Form::Conv
-        | Form::Same
-        | Form::Left
-        | Form::Right
-        | Form::CongApp
-        | Form::CongLam
-        | Form::CongPi => two_fault(terms, 1, node.subject, node.claim),
+    match node.form.kind() {
+        FormKind::Context => None,
+        FormKind::Judgement | FormKind::Comparison => {
+            two_fault(terms, 1, node.subject, node.claim)
+        }
     }
 }
 

@@ -1,16 +1,17 @@
 // A record: its two tables, and what is kept beside their lines.
 
 ghost use Rattle.std.specs.Prelude.{◌≡◌, ◌<◌, ◌≤◌, ◌++◌, ◌∷◌, [], length, take, slice_get, Some, None, OnOk, OnErr, IfOk, IfErr, IfSome};
-ghost use Rattle.pts_terms.specs.Tree.{bare};
+ghost use Rattle.std.specs.Option.{option_map};
+ghost use Rattle.pts_terms.specs.Tree.{bare, same_term};
 ghost use Rattle.pts_terms.specs.Limits.{depth_of, size_of};
 ghost use Rattle.pts_record.specs.Table.{Tables, bare_trees, bare_at, named_at, named_trees, unfold_shape, no_name, the_name, AllBelow, NodesLinked, shape_links, node_links, term_links, term_fault, node_fault, kept_node, UnlessMemory, measure};
-ghost use Rattle.pts_record.specs.Said.{told, named_told, say_as, row_of_node, extent, is_judgement};
+ghost use Rattle.pts_record.specs.Said.{told, named_told, say_as, row_of_node, scope_of, extent, is_judgement, statement_of};
 
 use crate::hints::{Hints, node_key, term_key};
 use crate::links::{context_fault, kept, part_fault, premise_fault, terms_fault};
 use crate::packed::Packed;
 use crate::shape::copy_shapes;
-use crate::{Extent, Form, Measure, Node, RecordFault, Shape};
+use crate::{Extent, Form, FormKind, Measure, Node, RecordFault, Shape, Terms};
 use pts_ctx::Term;
 use std::alloc::{AllocError, Global};
 use std::marker::Model;
@@ -308,20 +309,23 @@ impl Record {
         requires { number < length self.now.nodes }
         ensures { result ≡ is_judgement (told self.now number) }
     {
-        match self.node(number).form {
-            Form::Empty | Form::Assume | Form::Define | Form::Bare => false,
-            Form::SortAt
-            | Form::ConstAt
-            | Form::VarAt
-            | Form::Thin
-            | Form::PiAt
-            | Form::LamAt
-            | Form::AppAt
-            | Form::LetSort
-            | Form::LetAt
-            | Form::Conv => true,
-            Form::Same | Form::Left | Form::Right | Form::CongApp | Form::CongLam | Form::CongPi =>
-                false,
+        matches!(self.node(number).form.kind(), FormKind::Judgement)
+    }
+
+    /// The terms of a node that is a judgement.
+    pub fn judged(&self, number: usize) -> Option<Terms>
+        requires { number < length self.now.nodes }
+        ensures stand { IfSome result (λ t. (t.subject < length self.now.shapes) × (t.claim < length self.now.shapes)) }
+        ensures terms { option_map (λ t. (bare_at self.now.shapes t.subject, bare_at self.now.shapes t.claim)) result ≡ statement_of (told self.now number) }
+        ensures named { option_map (λ t. (named_at self.now.shapes t.subject, named_at self.now.shapes t.claim)) result ≡ statement_of (named_told self.now number) }
+    {
+        let node = self.node(number);
+        match node.form.kind() {
+            FormKind::Judgement => Some(Terms {
+                subject: node.subject,
+                claim: node.claim,
+            }),
+            FormKind::Context | FormKind::Comparison => None,
         }
     }
 
@@ -347,22 +351,7 @@ impl Record {
                 length: self.extent(node.ctx).length + 1,
                 typed: false,
             },
-            Form::SortAt
-            | Form::ConstAt
-            | Form::VarAt
-            | Form::Thin
-            | Form::PiAt
-            | Form::LamAt
-            | Form::AppAt
-            | Form::LetSort
-            | Form::LetAt
-            | Form::Conv
-            | Form::Same
-            | Form::Left
-            | Form::Right
-            | Form::CongApp
-            | Form::CongLam
-            | Form::CongPi => self.extent(node.ctx),
+            _ => self.extent(node.ctx),
         }
     }
 }

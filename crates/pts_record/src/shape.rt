@@ -2,6 +2,7 @@
 
 ghost use Rattle.std.specs.Prelude.{◌≡◌, ◌↔◌, IfOk, IsTrue};
 ghost use Rattle.pts_record.specs.declared.shape.RecordFault.TheVariants.{Memory};
+ghost use Rattle.pts_record.specs.Table.{kind_of};
 
 use pts_ctx::{Name, Sort};
 use std::alloc::{AllocError, AllocFailed, Global};
@@ -90,6 +91,37 @@ pub enum Form {
     CongApp,
     CongLam,
     CongPi,
+}
+
+/// What a node says: what its local context is, that a term has a type in it, or that two terms are equal in it.
+#[derive(Clone, Copy, Debug, PartialEq, Eq)]
+pub enum FormKind {
+    Context,
+    Judgement,
+    Comparison,
+}
+
+impl Form {
+    /// What a node of this form says.
+    pub fn kind(self) -> FormKind
+        ensures { result ≡ kind_of self }
+    {
+        match self {
+            Form::Empty | Form::Assume | Form::Define | Form::Bare => FormKind::Context,
+            Form::SortAt
+            | Form::ConstAt
+            | Form::VarAt
+            | Form::Thin
+            | Form::PiAt
+            | Form::LamAt
+            | Form::AppAt
+            | Form::LetSort
+            | Form::LetAt
+            | Form::Conv => FormKind::Judgement,
+            Form::Same | Form::Left | Form::Right | Form::CongApp | Form::CongLam | Form::CongPi =>
+                FormKind::Comparison,
+        }
+    }
 }
 
 /// A line of the table of nodes, with the numbers of earlier nodes and of terms. A field that the form does not use is 0.

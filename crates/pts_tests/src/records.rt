@@ -1,4 +1,6 @@
-use pts_record::{Extent, Form, Node, Record, RecordFault, Shape, Sort, Term};
+use pts_record::{
+    Extent, Form, FormKind, LocalEntry, Node, Record, RecordFault, Shape, Sort, Term, Terms,
+};
 use std::alloc::AllocError;
 
 fn add(record: &mut Record, shape: Shape) -> Result<usize, RecordFault> {
@@ -75,6 +77,58 @@ fn a_record_tells_its_lines_and_compares_its_terms(rt: HostRuntime) {
     assert!(rt; has_its_nodes(&record));
     assert!(rt; compares(&record));
     assert!(rt; tells_results(&record));
+}
+
+// After the nodes of `fill`: what `assume` and `define` make of the judgement, and `bare` of the empty context.
+fn fill_contexts(record: &mut Record) -> Result<usize, RecordFault> {
+    fill(record, 1)?;
+    add_context(record, Form::Assume, 1)?;
+    add_context(record, Form::Define, 1)?;
+    add_context(record, Form::Bare, 0)
+}
+
+fn add_context(record: &mut Record, form: Form, first: usize) -> Result<usize, RecordFault> {
+    record.add_node(Node {
+        form,
+        ctx: 0,
+        subject: 0,
+        claim: 0,
+        first,
+        second: 0,
+        third: 0,
+    })
+}
+
+fn tells_its_judgement(record: &Record) -> bool {
+    if record.nodes() != 5 {
+        return false;
+    }
+    matches!(
+        record.judged(1),
+        Some(Terms {
+            subject: 0,
+            claim: 1
+        })
+    ) && record.judged(0).is_none()
+        && matches!(Form::Same.kind(), FormKind::Comparison)
+}
+
+fn tells_its_entries(record: &Record) -> bool {
+    if record.nodes() != 5 {
+        return false;
+    }
+    record.entry(1, 0).is_none()
+        && matches!(record.entry(2, 0), Some(LocalEntry::Assumed(0)))
+        && matches!(record.entry(3, 0), Some(LocalEntry::Defined(0, 1)))
+        && matches!(record.entry(4, 0), Some(LocalEntry::Unknown))
+}
+
+#[test]
+fn a_record_tells_the_terms_of_judgements_and_the_entries_of_contexts(rt: HostRuntime) {
+    let mut record = Record::new(rt.alloc());
+    assert!(rt; matches!(fill_contexts(&mut record), Ok(4)));
+    assert!(rt; tells_its_judgement(&record));
+    assert!(rt; tells_its_entries(&record));
 }
 
 fn tree_at(record: &Record, number: usize) -> Result<Term, AllocError> {
