@@ -6,14 +6,14 @@ use Rattle.pts_ctx.specs.System.{Specification}
 use Rattle.pts_ctx.specs.Front.{Global, bare_front}
 use Rattle.pts_rules.specs.Derives.{Legal}
 use Rattle.pts_io.specs.Files.{file_of}
+use Rattle.pts_io.specs.States.{SinkState, LibraryState}
 use Rattle.pts_spec.specs.declared.fault.SpecFault.{SpecFault}
 use Rattle.pts_spec.specs.SpecFile.{system_of}
 use Rattle.pts_batch.specs.Batches.{BatchAnswer, BatchAnswers}
 use Rattle.yarrow.specs.declared.system.Unready.{Unready}
 use Rattle.yarrow.specs.declared.system.Unready.TheVariants.{Refused}
-use Rattle.yarrow.specs.Runs.{Outside}
-use Rattle.yarrow.specs.Systems.{Holdings, HasFile, IsUnread, unready_line, unready_status}
-use Rattle.yarrow.specs.Formats.{Writes}
+use Rattle.yarrow.specs.Runs.{Writes}
+use Rattle.yarrow.specs.Systems.{HasFile, IsUnread, unready_line, unready_status}
 
 -- The name of a module's file.
 abbrev pub file_name : List ℕ → List ℕ
@@ -58,11 +58,15 @@ pub data FilesPrint (name M text bytes : List ℕ) : (status : ℕ) → (out : L
 
 -- The same of a run. The file of the specification is read first, and then that of the module; where one is not read the
 -- status is 6, 7 or 8.
-pub data BatchPrints (name M : List ℕ) (h : Holdings) : (status : ℕ) → (out : List ℕ) → (entries : List (Global Name)) → Type 0 where
-  no_specification : {status : ℕ} {out : List ℕ} (why : Unready) → IsUnread h name why → UnreadyPrints name why status out → BatchPrints name M h status out []
-  no_file : {status : ℕ} {out : List ℕ} (why : Unready) (text : List ℕ) → HasFile h name text → IsUnread h (file_name M) why → UnreadyPrints (file_name M) why status out → BatchPrints name M h status out []
-  both_read : {status : ℕ} {out : List ℕ} {entries : List (Global Name)} (text bytes : List ℕ) → HasFile h name text → HasFile h (file_name M) bytes → h.faults_after ≡ h.faults → FilesPrint name M text bytes status out entries → BatchPrints name M h status out entries
-  no_memory_at_all : BatchPrints name M h 7 [] []
+pub data BatchPrints (name M : List ℕ) (old new : LibraryState) : (status : ℕ) → (out : List ℕ) → (entries : List (Global Name)) → Type 0 where
+  no_specification : {status : ℕ} {out : List ℕ} (why : Unready) → IsUnread old new name why
+      → UnreadyPrints name why status out → BatchPrints name M old new status out []
+  no_file : {status : ℕ} {out : List ℕ} (why : Unready) (text : List ℕ) → HasFile old name text → IsUnread old new (file_name M) why
+      → UnreadyPrints (file_name M) why status out → BatchPrints name M old new status out []
+  both_read : {status : ℕ} {out : List ℕ} {entries : List (Global Name)} (text bytes : List ℕ)
+      → HasFile old name text → HasFile old (file_name M) bytes → new.faults ≡ old.faults
+      → FilesPrint name M text bytes status out entries → BatchPrints name M old new status out entries
+  no_memory_at_all : BatchPrints name M old new 7 [] []
 
 -- The entries are legal by the system of a specification, and there are none where it is refused.
 abbrev pub IsLegalIn : Result Specification SpecFault → List (Global Name) → Type 0
@@ -70,8 +74,8 @@ IsLegalIn (Ok S) entries = Legal S (bare_front entries)
 IsLegalIn (Err e) entries = entries ≡ []
 
 -- A run of `batch` with a status and the entries of the context that it hands back.
-pub record IsBatchRun (name M : List ℕ) (h : Holdings) (o : Outside) (status : ℕ) (entries : List (Global Name)) : Type 0 where
-  pub prints : Writes (λ st out. BatchPrints name M h st out entries) o status
-  -- the context is legal, by the system of the specification where the library tells its files
+pub record IsBatchRun (name M : List ℕ) (library library_after : LibraryState) (sink sink_after : SinkState) (status : ℕ) (entries : List (Global Name)) : Type 0 where
+  pub prints : Writes (λ st out. BatchPrints name M library library_after st out entries) sink sink_after status
+  -- the context is legal, by the system of the specification where the library shows its files
   pub legal : (S : Specification) × Legal S (bare_front entries)
-  pub chosen : IfSome h.files (λ files. IfSome (file_of files name) (λ text. IsLegalIn (system_of text) entries))
+  pub chosen : IfSome library.files (λ files. IfSome (file_of files name) (λ text. IsLegalIn (system_of text) entries))

@@ -3,44 +3,43 @@ use Rattle.std.specs.Prelude.{◌≡◌, ℕ, ◌<◌, List, [], ◌++◌, lengt
 use Rattle.pts_ctx.specs.System.{Specification}
 use Rattle.pts_io.specs.Counts.{raised, Rose}
 use Rattle.pts_io.specs.Files.{file_of}
+use Rattle.pts_io.specs.States.{LibraryState}
 use Rattle.pts_spec.specs.FaultText.{specification_text}
+use Rattle.pts_spec.specs.declared.fault.SpecFault.{SpecFault}
 use Rattle.pts_spec.specs.SpecFile.{system_of}
 use Rattle.yarrow.specs.declared.system.Unready.{Unready}
 use Rattle.yarrow.specs.declared.system.Unready.TheVariants.{LibraryFailed, NoFile, TooLong, Refused, NoMemory}
 
--- The files, where the library tells them, and its counts before and after a run.
-pub record Holdings : Type 0 where
-  pub files : Option (List (List ℕ × List ℕ))
-  pub faults : ℕ
-  pub faults_after : ℕ
-  pub missing : ℕ
-  pub missing_after : ℕ
-  pub too_long : ℕ
-  pub too_long_after : ℕ
+-- The file of this name holds these bytes, as far as the library shows.
+abbrev pub HasFile : LibraryState → (name bytes : List ℕ) → Type 0
+HasFile library name bytes = IfSome library.files (λ files. file_of files name ≡ Some bytes)
 
--- The file of this name holds these bytes, as far as the library tells.
-abbrev pub HasFile : Holdings → List ℕ → List ℕ → Type 0
-HasFile h name bytes = IfSome h.files (λ files. file_of files name ≡ Some bytes)
+-- The file of this name was read, and nothing was counted.
+abbrev pub IsRead : (old new : LibraryState) → (name bytes : List ℕ) → Type 0
+IsRead old new name bytes = (new.faults ≡ old.faults) × (new.missing ≡ old.missing) × (new.too_long ≡ old.too_long) × HasFile old name bytes
 
 -- The specification of this name was read, and writes this system.
-abbrev pub IsReady : Holdings → List ℕ → Specification → Type 0
-IsReady h name S = (h.faults_after ≡ h.faults) × ((bytes : List ℕ) × HasFile h name bytes × (system_of bytes ≡ Ok S))
+abbrev pub IsReady : (old new : LibraryState) → (name : List ℕ) → Specification → Type 0
+IsReady old new name S = (new.faults ≡ old.faults) × ((bytes : List ℕ) × HasFile old name bytes × (system_of bytes ≡ Ok S))
 
 -- The file of this name was not read, for this reason. The library fails only where its count of faults rises.
-abbrev pub IsUnread : Holdings → List ℕ → Unready → Type 0
-IsUnread h name LibraryFailed = Rose h.faults h.faults_after
-IsUnread h name NoFile = (h.faults_after ≡ h.faults) × (h.missing_after ≡ raised h.missing 1) × IfSome h.files (λ files. file_of files name ≡ None)
-IsUnread h name TooLong = (h.faults_after ≡ h.faults) × (h.too_long_after ≡ raised h.too_long 1) × IfSome h.files (λ files. IsSomeAnd (file_of files name) (λ bytes. 16777216 < length bytes))
-IsUnread h name (Refused e) = ⊥
-IsUnread h name NoMemory = Unit {0}
+abbrev pub IsUnread : (old new : LibraryState) → (name : List ℕ) → Unready → Type 0
+IsUnread old new name LibraryFailed = Rose old.faults new.faults
+IsUnread old new name NoFile =
+    (new.faults ≡ old.faults) × (new.missing ≡ raised old.missing 1) × IfSome old.files (λ files. file_of files name ≡ None)
+IsUnread old new name TooLong =
+    (new.faults ≡ old.faults) × (new.too_long ≡ raised old.too_long 1)
+    × IfSome old.files (λ files. IsSomeAnd (file_of files name) (λ bytes. 16777216 < length bytes))
+IsUnread old new name (Refused e) = ⊥
+IsUnread old new name NoMemory = Unit {0}
 
 -- There is no system for this reason: the file was not read, or it writes none.
-abbrev pub IsUnready : Holdings → List ℕ → Unready → Type 0
-IsUnready h name (Refused e) = (h.faults_after ≡ h.faults) × ((bytes : List ℕ) × HasFile h name bytes × (system_of bytes ≡ Err e))
-IsUnready h name LibraryFailed = IsUnread h name LibraryFailed
-IsUnready h name NoFile = IsUnread h name NoFile
-IsUnready h name TooLong = IsUnread h name TooLong
-IsUnready h name NoMemory = IsUnread h name NoMemory
+abbrev pub IsUnready : (old new : LibraryState) → (name : List ℕ) → Unready → Type 0
+IsUnready old new name (Refused e) = (new.faults ≡ old.faults) × ((bytes : List ℕ) × HasFile old name bytes × (system_of bytes ≡ Err e))
+IsUnready old new name LibraryFailed = IsUnread old new name LibraryFailed
+IsUnready old new name NoFile = IsUnread old new name NoFile
+IsUnready old new name TooLong = IsUnread old new name TooLong
+IsUnready old new name NoMemory = IsUnread old new name NoMemory
 
 -- A file writes no system for this reason.
 abbrev pub RefusesFile : List ℕ → Unready → Type 0

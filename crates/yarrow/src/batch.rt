@@ -1,16 +1,13 @@
 // The command `batch`.
 
-ghost use Rattle.std.specs.Prelude.{◌≡◌, ◌++◌, ℕ, ◌≤◌, [], codes, true, length, take, Err, IfOk, OnOk, string_bytes};
-ghost use Rattle.std.specs.Io.KnownBytes.{append_known};
+ghost use Rattle.std.specs.Prelude.{◌≡◌, ◌++◌, ℕ, [], codes, true, take, Err, IfOk, OnOk, string_bytes};
 ghost use Rattle.pts_ctx.specs.Front.{bare_front};
 ghost use Rattle.pts_rules.specs.Derives.{Legal};
 ghost use Rattle.pts_spec.specs.SpecFile.{system_of};
 ghost use Rattle.pts_batch.specs.Batches.{BatchAnswers};
 ghost use Rattle.pts_batch.specs.Shown.{answer_seen};
-ghost use Rattle.pts_io.specs.Counts.{Rose};
 ghost use Rattle.yarrow.specs.Commands.{is_module};
-ghost use Rattle.yarrow.specs.Runs.{only_sink};
-ghost use Rattle.yarrow.specs.Formats.{Writes};
+ghost use Rattle.yarrow.specs.Runs.{Prints, PrintsPart, Writes};
 ghost use Rattle.yarrow.specs.Batches.{IsBatchRun, IsLegalIn, FilesPrint, AnswerPrints, ModulePrints, UnreadyPrints, text_of, done_line};
 
 use crate::run::{Finish, ended, printed, without_memory};
@@ -35,9 +32,10 @@ pub fn run_batch<K: Sink, L: Library>(
     library: &mut L,
 ) -> Finish
     requires named { is_module name.now ≡ true }
-    ensures batch { IsBatchRun spec.now name.now (record { files = L.files library.old; faults = L.faults library.old; faults_after = L.faults library.new; missing = L.missing library.old; missing_after = L.missing library.new; too_long = L.too_long library.old; too_long_after = L.too_long library.new }) (only_sink (K.written sink.old) (K.written sink.new) (K.faults sink.old) (K.faults sink.new)) result.status result.context.entries }
+    ensures batch { IsBatchRun spec.now name.now (L.state library.old) (L.state library.new)
+        (K.state sink.old) (K.state sink.new) result.status result.context.entries }
     ensures order { result.order ≡ [] }
-    ensures files { L.files library.new ≡ L.files library.old }
+    ensures files { (L.state library.new).files ≡ (L.state library.old).files }
 {
     let text = match file_named(alloc, spec, library) {
         Ok(text) => text,
@@ -54,7 +52,8 @@ pub fn run_batch<K: Sink, L: Library>(
 
 // The end of a run for which a file, or the system that it specifies, is not there.
 fn unready<K: Sink>(alloc: Global, name: &str, why: &Unready, sink: &mut K) -> Finish
-    ensures prints { Writes (UnreadyPrints name.now why.now) (only_sink (K.written sink.old) (K.written sink.new) (K.faults sink.old) (K.faults sink.new)) result.status }
+    ensures prints { Writes (UnreadyPrints name.now why.now)
+        (K.state sink.old) (K.state sink.new) result.status }
     ensures context { result.context.entries ≡ [] }
     ensures order { result.order ≡ [] }
 {
@@ -80,7 +79,9 @@ fn batch_files<K: Sink>(
     sink: &mut K,
 ) -> Finish
     requires named { is_module name.now ≡ true }
-    ensures prints { Writes (λ status out. FilesPrint spec.now name.now text.now bytes.now status out result.context.entries) (only_sink (K.written sink.old) (K.written sink.new) (K.faults sink.old) (K.faults sink.new)) result.status }
+    ensures prints { Writes
+        (λ status out. FilesPrint spec.now name.now text.now bytes.now status out result.context.entries)
+        (K.state sink.old) (K.state sink.new) result.status }
     ensures legal { IsLegalIn (system_of text.now) result.context.entries }
     ensures order { result.order ≡ [] }
 {
@@ -99,7 +100,9 @@ fn batch_module<K: Sink>(
     sink: &mut K,
 ) -> Finish
     requires named { is_module name.now ≡ true }
-    ensures prints { Writes (λ status out. ModulePrints system name.now bytes.now status out result.context.entries) (only_sink (K.written sink.old) (K.written sink.new) (K.faults sink.old) (K.faults sink.new)) result.status }
+    ensures prints { Writes
+        (λ status out. ModulePrints system name.now bytes.now status out result.context.entries)
+        (K.state sink.old) (K.state sink.new) result.status }
     ensures legal { Legal system (bare_front result.context.entries) }
     ensures order { result.order ≡ [] }
 {
@@ -141,7 +144,8 @@ fn module_name(alloc: Global, text: &str) -> Result<Name, AllocError>
 
 // Prints an answer.
 fn print_batch<K: Sink>(alloc: Global, batch: Batch, sink: &mut K) -> Finish
-    ensures prints { Writes (AnswerPrints (answer_seen batch)) (only_sink (K.written sink.old) (K.written sink.new) (K.faults sink.old) (K.faults sink.new)) result.status }
+    ensures prints { Writes (AnswerPrints (answer_seen batch))
+        (K.state sink.old) (K.state sink.new) result.status }
     ensures context { result.context.entries ≡ batch.context.entries }
     ensures order { result.order ≡ [] }
 {
@@ -176,9 +180,11 @@ pub(crate) enum Unprinted {
 
 // Prints each line as soon as it is made.
 fn print_lines<K: Sink>(alloc: Global, lines: &[Text], sink: &mut K) -> Result<(), Unprinted>
-    ensures whole { OnOk result ((K.written sink.new ≡ append_known (K.written sink.old) (text_of lines.now)) × (K.faults sink.new ≡ K.faults sink.old)) }
-    ensures write_failed { result ≡ Err Unprinted.WriteFailed → Rose (K.faults sink.old) (K.faults sink.new) × ((n : ℕ) × (n ≤ length (text_of lines.now)) × (K.written sink.new ≡ append_known (K.written sink.old) (take n (text_of lines.now)))) }
-    ensures no_memory { result ≡ Err Unprinted.NoMemory → ((n : ℕ) × (K.written sink.new ≡ append_known (K.written sink.old) (text_of (take n lines.now)))) × (K.faults sink.new ≡ K.faults sink.old) }
+    ensures whole { OnOk result (Prints (K.state sink.old) (K.state sink.new) (text_of lines.now)) }
+    ensures write_failed { result ≡ Err Unprinted.WriteFailed
+        → PrintsPart (K.state sink.old) (K.state sink.new) (text_of lines.now) }
+    ensures no_memory { result ≡ Err Unprinted.NoMemory
+        → (n : ℕ) × Prints (K.state sink.old) (K.state sink.new) (text_of (take n lines.now)) }
 {
     for line in lines {
         let Ok(text) = line_text(alloc, line) else {

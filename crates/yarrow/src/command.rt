@@ -19,7 +19,9 @@ pub(crate) enum Command<'a> {
 /// The command that the words are, or nothing where they have no form.
 #[tactic(auto, unfolding(crate::specs::Commands::command_of))]
 pub(crate) fn command_of(words: &[String]) -> Option<Command<'_>>
-    ensures { MatchOption result (command_of (map string_bytes words.now) ≡ None) (λ c. command_of (map string_bytes words.now) ≡ Some (command_seen c)) }
+    ensures { MatchOption result
+        (command_of (map string_bytes words.now) ≡ None)
+        (λ c. command_of (map string_bytes words.now) ≡ Some (command_seen c)) }
 {
     let [word, rest @ ..] = words else {
         return None;
@@ -33,7 +35,9 @@ pub(crate) fn command_of(words: &[String]) -> Option<Command<'_>>
 }
 
 fn check_with(words: &[String]) -> Option<Command<'_>>
-    ensures { MatchOption result (check_with (map string_bytes words.now) ≡ None) (λ c. check_with (map string_bytes words.now) ≡ Some (command_seen c)) }
+    ensures { MatchOption result
+        (check_with (map string_bytes words.now) ≡ None)
+        (λ c. check_with (map string_bytes words.now) ≡ Some (command_seen c)) }
 {
     match words {
         [] => Some(Command::Check),
@@ -42,7 +46,9 @@ fn check_with(words: &[String]) -> Option<Command<'_>>
 }
 
 fn format_with(words: &[String]) -> Option<Command<'_>>
-    ensures { MatchOption result (format_with (map string_bytes words.now) ≡ None) (λ c. format_with (map string_bytes words.now) ≡ Some (command_seen c)) }
+    ensures { MatchOption result
+        (format_with (map string_bytes words.now) ≡ None)
+        (λ c. format_with (map string_bytes words.now) ≡ Some (command_seen c)) }
 {
     match words {
         [word] if !word.is_empty() => Some(Command::Format(word.as_str())),
@@ -51,7 +57,9 @@ fn format_with(words: &[String]) -> Option<Command<'_>>
 }
 
 fn batch_with(words: &[String]) -> Option<Command<'_>>
-    ensures { MatchOption result (batch_with (map string_bytes words.now) ≡ None) (λ c. batch_with (map string_bytes words.now) ≡ Some (command_seen c)) }
+    ensures { MatchOption result
+        (batch_with (map string_bytes words.now) ≡ None)
+        (λ c. batch_with (map string_bytes words.now) ≡ Some (command_seen c)) }
 {
     match words {
         [word, name] if !word.is_empty() && is_module(name.as_str()) => {

@@ -1,7 +1,8 @@
 // The command `format`.
 
 ghost use Rattle.std.specs.Prelude.{◌≡◌, []};
-ghost use Rattle.yarrow.specs.Formats.{LinesPrint, Writes, IsFormatRun};
+ghost use Rattle.yarrow.specs.Runs.{Writes};
+ghost use Rattle.yarrow.specs.Formats.{LinesPrint, IsFormatRun};
 
 use crate::run::{Finish, LIMIT, finished, printed, without_memory};
 use crate::system::{system_named, unready_line, unready_status};
@@ -21,10 +22,11 @@ pub fn run_format<S: Source, K: Sink, L: Library>(
     sink: &mut K,
     library: &mut L,
 ) -> Finish
-    ensures format { IsFormatRun name.now (record { files = L.files library.old; faults = L.faults library.old; faults_after = L.faults library.new; missing = L.missing library.old; missing_after = L.missing library.new; too_long = L.too_long library.old; too_long_after = L.too_long library.new }) (record { left = S.left source.old; given = S.given source.old; given_after = S.given source.new; read_faults = S.faults source.old; read_faults_after = S.faults source.new; written = K.written sink.old; written_after = K.written sink.new; write_faults = K.faults sink.old; write_faults_after = K.faults sink.new }) result.status }
+    ensures format { IsFormatRun name.now (L.state library.old) (L.state library.new)
+        (S.state source.old) (S.state source.new) (K.state sink.old) (K.state sink.new) result.status }
     ensures context { result.context.entries ≡ [] }
     ensures order { result.order ≡ [] }
-    ensures files { L.files library.new ≡ L.files library.old }
+    ensures files { (L.state library.new).files ≡ (L.state library.old).files }
 {
     match system_named(alloc, name, library) {
         Ok(system) => format_source(alloc, &system, source, sink),
@@ -45,7 +47,8 @@ fn format_source<S: Source, K: Sink>(
     source: &mut S,
     sink: &mut K,
 ) -> Finish
-    ensures format { Writes (LinesPrint system.now.sorts (record { left = S.left source.old; given = S.given source.old; given_after = S.given source.new; read_faults = S.faults source.old; read_faults_after = S.faults source.new; written = K.written sink.old; written_after = K.written sink.new; write_faults = K.faults sink.old; write_faults_after = K.faults sink.new })) (record { left = S.left source.old; given = S.given source.old; given_after = S.given source.new; read_faults = S.faults source.old; read_faults_after = S.faults source.new; written = K.written sink.old; written_after = K.written sink.new; write_faults = K.faults sink.old; write_faults_after = K.faults sink.new }) result.status }
+    ensures format { Writes (LinesPrint system.now.sorts (S.state source.old) (S.state source.new))
+        (K.state sink.old) (K.state sink.new) result.status }
     ensures context { result.context.entries ≡ [] }
     ensures order { result.order ≡ [] }
 {

@@ -1,10 +1,8 @@
 // The top call.
 
-ghost use Rattle.std.specs.Prelude.{◌≡◌, ◌⊎◌, ℕ, ◌≤◌, [], false, length, map, take, string_bytes};
-ghost use Rattle.std.specs.Io.KnownBytes.{append_known};
-ghost use Rattle.pts_io.specs.Counts.{Rose};
+ghost use Rattle.std.specs.Prelude.{◌≡◌, [], false, map, string_bytes};
 ghost use Rattle.yarrow.specs.Commands.{command_of};
-ghost use Rattle.yarrow.specs.Runs.{IsCheckRun};
+ghost use Rattle.yarrow.specs.Runs.{PrintsLine, IsCheckRun};
 ghost use Rattle.yarrow.specs.Commanded.{IsRun, reads_files};
 
 use crate::answer::{Answer, answer_to};
@@ -37,9 +35,11 @@ pub fn run<S: Source, K: Sink, L: Library>(
     sink: &mut K,
     library: &mut L,
 ) -> Finish
-    ensures run { IsRun (command_of (map string_bytes words.now)) (record { files = L.files library.old; faults = L.faults library.old; faults_after = L.faults library.new; missing = L.missing library.old; missing_after = L.missing library.new; too_long = L.too_long library.old; too_long_after = L.too_long library.new }) (record { left = S.left source.old; given = S.given source.old; given_after = S.given source.new; read_faults = S.faults source.old; read_faults_after = S.faults source.new; written = K.written sink.old; written_after = K.written sink.new; write_faults = K.faults sink.old; write_faults_after = K.faults sink.new }) result.status result.context.entries }
+    ensures run { IsRun (command_of (map string_bytes words.now))
+        (L.state library.old) (L.state library.new) (S.state source.old) (S.state source.new)
+        (K.state sink.old) (K.state sink.new) result.status result.context.entries }
     ensures library { reads_files (command_of (map string_bytes words.now)) ≡ false → library.new ≡ library.old }
-    ensures files { L.files library.new ≡ L.files library.old }
+    ensures files { (L.state library.new).files ≡ (L.state library.old).files }
     ensures order { result.order ≡ [] }
 {
     match command_of(words) {
@@ -52,7 +52,8 @@ pub fn run<S: Source, K: Sink, L: Library>(
 
 /// Reads a certificate from the source, whole, checks it over the empty context, and prints one line.
 pub fn run_check<S: Source, K: Sink>(alloc: Global, source: &mut S, sink: &mut K) -> Finish
-    ensures check { IsCheckRun (record { left = S.left source.old; given = S.given source.old; given_after = S.given source.new; read_faults = S.faults source.old; read_faults_after = S.faults source.new; written = K.written sink.old; written_after = K.written sink.new; write_faults = K.faults sink.old; write_faults_after = K.faults sink.new }) result.status result.context.entries }
+    ensures check { IsCheckRun (S.state source.old) (S.state source.new)
+        (K.state sink.old) (K.state sink.new) result.status result.context.entries }
     ensures order { result.order ≡ [] }
 {
     match read_whole(alloc, source, LIMIT) {
@@ -116,8 +117,7 @@ pub(crate) fn printed<K: Sink>(
     line: &[u8],
     context: Context,
 ) -> Finish
-    ensures status { ((result.status ≡ status) × (K.faults sink.new ≡ K.faults sink.old) × (K.written sink.new ≡ append_known (K.written sink.old) line.now))
-        ⊎ ((result.status ≡ 5) × Rose (K.faults sink.old) (K.faults sink.new) × ((n : ℕ) × (n ≤ length line.now) × (K.written sink.new ≡ append_known (K.written sink.old) (take n line.now)))) }
+    ensures status { PrintsLine status line.now (K.state sink.old) (K.state sink.new) result.status }
     ensures context { result.context.entries ≡ context.entries }
     ensures order { result.order ≡ [] }
 {

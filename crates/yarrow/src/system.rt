@@ -1,9 +1,8 @@
 // The system that a command works in.
 
-ghost use Rattle.std.specs.Prelude.{◌≡◌, Some, Ok, IfOk, IfErr, IfSome, string_bytes};
+ghost use Rattle.std.specs.Prelude.{◌≡◌, Ok, IfOk, IfErr, string_bytes};
 ghost use Rattle.pts_spec.specs.SpecFile.{system_of};
-ghost use Rattle.pts_io.specs.Files.{file_of};
-ghost use Rattle.yarrow.specs.Systems.{IsReady, IsUnready, IsUnread, RefusesFile, unready_line, unready_status};
+ghost use Rattle.yarrow.specs.Systems.{IsRead, IsReady, IsUnready, IsUnread, RefusesFile, unready_line, unready_status};
 
 use pts_ctx::System;
 use pts_io::{Found, Library, ReadFail};
@@ -31,9 +30,9 @@ pub(crate) fn system_named<L: Library>(
     name: &str,
     library: &mut L,
 ) -> Result<System, Unready>
-    ensures files { L.files library.new ≡ L.files library.old }
-    ensures ready { IfOk result (λ system. IsReady (record { files = L.files library.old; faults = L.faults library.old; faults_after = L.faults library.new; missing = L.missing library.old; missing_after = L.missing library.new; too_long = L.too_long library.old; too_long_after = L.too_long library.new }) name.now system) }
-    ensures unready { IfErr result (λ why. IsUnready (record { files = L.files library.old; faults = L.faults library.old; faults_after = L.faults library.new; missing = L.missing library.old; missing_after = L.missing library.new; too_long = L.too_long library.old; too_long_after = L.too_long library.new }) name.now why) }
+    ensures files { (L.state library.new).files ≡ (L.state library.old).files }
+    ensures ready { IfOk result (λ system. IsReady (L.state library.old) (L.state library.new) name.now system) }
+    ensures unready { IfErr result (λ why. IsUnready (L.state library.old) (L.state library.new) name.now why) }
 {
     match file_named(alloc, name, library) {
         Ok(bytes) => system_in(alloc, bytes.as_slice()),
@@ -47,9 +46,10 @@ pub(crate) fn file_named<L: Library>(
     name: &str,
     library: &mut L,
 ) -> Result<Vec<u8>, Unready>
-    ensures files { L.files library.new ≡ L.files library.old }
-    ensures read { IfOk result (λ bytes. (L.faults library.new ≡ L.faults library.old) × (L.missing library.new ≡ L.missing library.old) × (L.too_long library.new ≡ L.too_long library.old) × IfSome (L.files library.old) (λ files. file_of files name.now ≡ Some bytes.items)) }
-    ensures unread { IfErr result (λ why. IsUnread (record { files = L.files library.old; faults = L.faults library.old; faults_after = L.faults library.new; missing = L.missing library.old; missing_after = L.missing library.new; too_long = L.too_long library.old; too_long_after = L.too_long library.new }) name.now why) }
+    ensures files { (L.state library.new).files ≡ (L.state library.old).files }
+    ensures read { IfOk result (λ bytes.
+        IsRead (L.state library.old) (L.state library.new) name.now bytes.items) }
+    ensures unread { IfErr result (λ why. IsUnread (L.state library.old) (L.state library.new) name.now why) }
 {
     match library.read(alloc, name) {
         Ok(Found::Bytes(bytes)) => Ok(bytes),

@@ -1,16 +1,15 @@
 use Rattle.pts_spec.specs.SpecFile.{system_of}
-use Rattle.yarrow.specs.Runs.{only_sink}
 use Rattle.yarrow.proofs.BatchEnds.{in_system_end, no_system_end, none_legal_in}
 use Rattle.yarrow.proofs.batch.batch_files.Goals as goal
 
 pub returns-in-Ok-clause-prints : goal.returns-in-Ok-clause-prints
 returns-in-Ok-clause-prints g c =
-    in_system_end c.args.spec.now c.args.name.now c.args.text.now c.args.bytes.now (only_sink (g.K.Sink.written c.args.sink.now) (g.K.Sink.written c.batch_module.new.sink) (g.K.Sink.faults c.args.sink.now) (g.K.Sink.faults c.batch_module.new.sink)) c.batch_module.result.status c.in-Ok.system c.batch_module.result.context.entries
+    in_system_end c.args.spec.now c.args.name.now c.args.text.now c.args.bytes.now (g.K.Sink.state c.args.sink.now) (g.K.Sink.state c.batch_module.new.sink) c.batch_module.result.status c.in-Ok.system c.batch_module.result.context.entries
     c.in-Ok.ensures.ready c.batch_module.ensures.prints
 
 pub returns-in-Err-clause-prints : goal.returns-in-Err-clause-prints
 returns-in-Err-clause-prints g c =
-    no_system_end c.args.spec.now c.args.name.now c.args.text.now c.args.bytes.now c.in-Err.why (only_sink (g.K.Sink.written c.args.sink.now) (g.K.Sink.written c.unready.new.sink) (g.K.Sink.faults c.args.sink.now) (g.K.Sink.faults c.unready.new.sink)) c.unready.result.status c.unready.result.context.entries
+    no_system_end c.args.spec.now c.args.name.now c.args.text.now c.args.bytes.now c.in-Err.why (g.K.Sink.state c.args.sink.now) (g.K.Sink.state c.unready.new.sink) c.unready.result.status c.unready.result.context.entries
     c.in-Err.ensures.refused c.unready.ensures.context c.unready.ensures.prints
 
 pub returns-in-Err-clause-legal : goal.returns-in-Err-clause-legal

@@ -1,12 +1,10 @@
-use Rattle.std.proofs.Common.{refl}
 use Rattle.pts_batch.specs.Shown.{answer_seen}
-use Rattle.yarrow.specs.Runs.{only_sink}
 use Rattle.yarrow.proofs.BatchEnds.{module_answered, module_unanswered, entered_legal, none_entered_legal}
 use Rattle.yarrow.proofs.batch.batch_module.Goals as goal
 
 pub returns-in-Ok-clause-prints : goal.returns-in-Ok-clause-prints
 returns-in-Ok-clause-prints g c =
-    module_answered c.args.system c.args.name.now c.args.bytes.now (only_sink (g.K.Sink.written c.args.sink.now) (g.K.Sink.written c.print_batch.new.sink) (g.K.Sink.faults c.args.sink.now) (g.K.Sink.faults c.print_batch.new.sink)) c.print_batch.result.status (answer_seen c.in-Ok.batch) c.in-Ok.batch.units c.print_batch.result.context.entries
+    module_answered c.args.system c.args.name.now c.args.bytes.now (g.K.Sink.state c.args.sink.now) (g.K.Sink.state c.print_batch.new.sink) c.print_batch.result.status (answer_seen c.in-Ok.batch) c.in-Ok.batch.units c.print_batch.result.context.entries
     c.in-Ok.ensures.answer c.print_batch.ensures.context c.print_batch.ensures.prints
 
 pub returns-in-Ok-clause-legal : goal.returns-in-Ok-clause-legal
@@ -14,8 +12,8 @@ returns-in-Ok-clause-legal g c = entered_legal c.args.system c.print_batch.resul
 
 pub returns-in-Err-clause-prints : goal.returns-in-Err-clause-prints
 returns-in-Err-clause-prints g c =
-    module_unanswered c.args.system c.args.name.now c.args.bytes.now (only_sink (g.K.Sink.written c.args.sink.now) (g.K.Sink.written c.args.sink.now) (g.K.Sink.faults c.args.sink.now) (g.K.Sink.faults c.args.sink.now)) c.without_memory.result.status c.without_memory.result.context.entries
-    c.without_memory.ensures.status c.without_memory.ensures.context refl refl
+    module_unanswered c.args.system c.args.name.now c.args.bytes.now (g.K.Sink.state c.args.sink.now) c.without_memory.result.status c.without_memory.result.context.entries
+    c.without_memory.ensures.status c.without_memory.ensures.context
 
 pub returns-in-Err-clause-legal : goal.returns-in-Err-clause-legal
 returns-in-Err-clause-legal g c = none_entered_legal c.args.system c.without_memory.result.context.entries c.without_memory.ensures.context

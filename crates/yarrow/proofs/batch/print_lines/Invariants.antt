@@ -5,6 +5,6 @@ use Rattle.yarrow.proofs.batch.print_lines.Given as goal
 
 abbrev pub invariant-loop-line : goal.invariant-loop-line
 invariant-loop-line g l = record {
-  written : g.K.Sink.written l.sink ≡ append_known (g.K.Sink.written l.fn.sink) (text_of (take l.line-index l.lines));
-  faults : g.K.Sink.faults l.sink ≡ g.K.Sink.faults l.fn.sink;
+  written : (g.K.Sink.state l.sink).written ≡ append_known (g.K.Sink.state l.fn.sink).written (text_of (take l.line-index l.lines));
+  faults : (g.K.Sink.state l.sink).faults ≡ (g.K.Sink.state l.fn.sink).faults;
 }

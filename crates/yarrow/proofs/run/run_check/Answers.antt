@@ -1,34 +1,39 @@
-use Rattle.std.proofs.Common.{◌≡◌, refl, ◌∙◌, ap, sym, subst, Err, vec_len}
-use Rattle.std.specs.Prelude.{IfSome}
+use Rattle.std.proofs.Common.{◌≡◌, refl, ◌∙◌, ap, sym, Err, vec_len, arith}
 use Rattle.yarrow.proofs.RunEnds.{failed_run, long_run, memory_run, answered_run}
 use Rattle.yarrow.proofs.run.run_check.Goals as goal
 
 pub returns-in-Err-Failed-clause-check : goal.returns-in-Err-Failed-clause-check
 returns-in-Err-Failed-clause-check g c =
-    failed_run _ c.printed.result.status c.printed.result.context.entries (c.read_whole.ensures.failed (c.in-Err-Failed.is ∙ ap Err c.in-Err-Failed.field-0-is)) (c.printed.ensures.context ∙ c.new.ensures.entries) c.printed.ensures.status
+    let is = c.in-Err-Failed.is ∙ ap Err c.in-Err-Failed.field-0-is in
+    let (n, few, given, left) = c.read_whole.ensures.moved (λ h. cc (sym is ∙ h)) in
+    failed_run (g.S.Source.state c.args.source.now) _ (g.K.Sink.state c.args.sink.now) c.printed.result.status (g.K.Sink.state c.printed.new.sink) c.printed.result.context.entries n few given (c.read_whole.ensures.failed is) (c.printed.ensures.context ∙ c.new.ensures.entries) c.printed.ensures.status
 
 pub returns-in-Err-TooMuch-clause-check : goal.returns-in-Err-TooMuch-clause-check
 returns-in-Err-TooMuch-clause-check g c =
     let is = c.in-Err-TooMuch.is ∙ ap Err c.in-Err-TooMuch.field-0-is in
-    long_run _ c.printed-in-Err-TooMuch.result.status c.printed-in-Err-TooMuch.result.context.entries (c.read_whole.ensures.too_much_given is) (c.read_whole.ensures.too_much_faults is) (c.printed-in-Err-TooMuch.ensures.context ∙ c.new-in-Err-TooMuch.ensures.entries) c.printed-in-Err-TooMuch.ensures.status
+    long_run (g.S.Source.state c.args.source.now) _ (g.K.Sink.state c.args.sink.now) c.printed-in-Err-TooMuch.result.status (g.K.Sink.state c.printed-in-Err-TooMuch.new.sink) c.printed-in-Err-TooMuch.result.context.entries (c.read_whole.ensures.too_much_given is, c.read_whole.ensures.too_much_faults is) (c.read_whole.ensures.too_much_left is) (c.printed-in-Err-TooMuch.ensures.context ∙ c.new-in-Err-TooMuch.ensures.entries) c.printed-in-Err-TooMuch.ensures.status
 
 pub returns-in-Err-Memory-clause-check : goal.returns-in-Err-Memory-clause-check
 returns-in-Err-Memory-clause-check g c =
-    memory_run _ c.without_memory.result.status c.without_memory.result.context.entries c.without_memory.ensures.status c.without_memory.ensures.context refl
+    let is = c.in-Err-Memory.is ∙ ap Err c.in-Err-Memory.field-0-is in
+    let (n, few, given, left) = c.read_whole.ensures.moved (λ h. cc (sym is ∙ h)) in
+    memory_run (g.S.Source.state c.args.source.now) _ (g.K.Sink.state c.args.sink.now) c.without_memory.result.status c.without_memory.result.context.entries n few given c.without_memory.ensures.status c.without_memory.ensures.context
 
 pub returns-in-Err-clause-check : goal.returns-in-Err-clause-check
 returns-in-Err-clause-check g c =
-    memory_run _ c.without_memory-in-Err.result.status c.without_memory-in-Err.result.context.entries c.without_memory-in-Err.ensures.status c.without_memory-in-Err.ensures.context refl
+    memory_run (g.S.Source.state c.args.source.now) _ (g.K.Sink.state c.args.sink.now) c.without_memory-in-Err.result.status c.without_memory-in-Err.result.context.entries (vec_len c.in-Ok.bytes) c.in-Ok.ensures.within c.in-Ok.ensures.given c.without_memory-in-Err.ensures.status c.without_memory-in-Err.ensures.context
 
 pub returns-clause-check : goal.returns-clause-check
 returns-clause-check g c =
-    answered_run _ c.printed-in-Ok-answer_to.result.status c.in-Ok-answer_to.answer.status c.printed-in-Ok-answer_to.result.context.entries c.as_bytes.result.now c.as_slice.result.now
+    answered_run (g.S.Source.state c.args.source.now) _ (g.K.Sink.state c.args.sink.now) c.printed-in-Ok-answer_to.result.status (g.K.Sink.state c.printed-in-Ok-answer_to.new.sink) c.in-Ok-answer_to.answer.status c.printed-in-Ok-answer_to.result.context.entries c.as_bytes.result.now c.as_slice.result.now c.in-Ok.bytes.items (vec_len c.in-Ok.bytes)
+    c.as_slice.ensures.value
+    (omega (arith, c.in-Ok.bytes.ok.0))
+    c.in-Ok.ensures.within
+    c.in-Ok.ensures.given
+    c.in-Ok.ensures.faults
+    c.in-Ok.ensures.read
+    c.in-Ok.ensures.end
     c.in-Ok-answer_to.ensures.status
     (c.as_bytes.ensures.value ∙ c.in-Ok-answer_to.ensures.line)
     (c.printed-in-Ok-answer_to.ensures.context ∙ c.in-Ok-answer_to.ensures.entries)
-    (subst (λ b. IfSome (g.S.Source.left c.args.source.now) (λ all. b ≡ all)) (sym c.as_slice.ensures.value) c.in-Ok.ensures.read)
-    c.in-Ok.ensures.faults
-    (vec_len c.in-Ok.bytes)
-    c.in-Ok.ensures.within
-    c.in-Ok.ensures.given
     c.printed-in-Ok-answer_to.ensures.status
