@@ -5,7 +5,6 @@ use Rattle.pts_io.specs.Counts.{raised, Rose}
 use Rattle.pts_io.specs.Files.{file_of}
 use Rattle.pts_io.specs.States.{LibraryState}
 use Rattle.pts_spec.specs.FaultText.{specification_text}
-use Rattle.pts_spec.specs.declared.fault.SpecFault.{SpecFault}
 use Rattle.pts_spec.specs.SpecFile.{system_of}
 use Rattle.yarrow.specs.declared.system.Unready.{Unready}
 use Rattle.yarrow.specs.declared.system.Unready.TheVariants.{LibraryFailed, NoFile, TooLong, Refused, NoMemory}
