@@ -10,7 +10,7 @@
 -- An ident is a name of one part. `Reads ts T us` says that the tokens ts begin with a text of T, and that us is behind
 -- it; so ts is a text of T if `Reads ts T []`. The same for an app and an atom.
 use Rattle.std.specs.Prelude.{◌≡◌, ℕ, List, ◌∷◌, true}
-use Rattle.pts_names.specs.Name.{Name, is_identifier}
+use Rattle.pts_names.specs.Name.{Name, is_identifier, underscore}
 use Rattle.pts_tokens.specs.declared.token.Token.TheVariants.{Lambda, At, Let, In, Colon, Assign, Dot, Arrow, Open, Close, Sort, Name as Word}
 use Rattle.pts_tokens.specs.Tokens.{Spot}
 use Rattle.pts_grammar.specs.Syntax.{Syntax, sort, name, app, lam, pi, let_in}
