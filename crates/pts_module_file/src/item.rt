@@ -109,7 +109,7 @@ fn later_line(alloc: Global, stage: Stage, text: &str) -> Result<(Stage, Item), 
 fn ending(stage: Stage, text: &str) -> Result<(Stage, Item), FileLineFault>
     ensures { AnswersAs (λ r. (r.0, file_line_of r.1)) result (lines.ending stage text.now) }
 {
-    if may_declare(stage, Declaring::Assume) && is(text.as_bytes(), "end") {
+    if may_declare(stage, Declaring::Assume) && is_text(text.as_bytes(), "end") {
         return Ok((Stage::Ended, Item::Fixed));
     }
     Err(FileLineFault::Because(FileWhy::Form))
