@@ -18,7 +18,7 @@ use crate::fault::DeclareFault;
 use crate::stated::Stated;
 use pts_check::concludes;
 use pts_ctx::{Context, System};
-use pts_infer::{FitFault, InferFault, Typed, infer_fitted, infer_term, infer_type};
+use pts_infer::{FitFault, InferFault, Part, Typed, infer_fitted, infer_term, infer_type};
 use pts_names::Name;
 use pts_record::{Declaration, Record};
 use pts_rules::Meter;

@@ -7,8 +7,7 @@ ghost use Rattle.pts_declare.specs.Answered.{fault_text};
 use crate::fault::DeclareFault;
 use pts_ctx::System;
 use pts_flaw_text::flaw_text;
-use pts_infer::{Flaw, Part};
-use pts_parser::ReadFault;
+use pts_infer::Part;
 use std::alloc::{AllocError, Global};
 
 /// How the refusal of a statement is printed. That memory lacks is none.
