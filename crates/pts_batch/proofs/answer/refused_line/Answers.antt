@@ -8,5 +8,5 @@ use Rattle.pts_batch.proofs.answer.refused_line.Goals as goal
 pub returns-clause-answer : goal.returns-clause-answer
 returns-clause-answer c =
     subst (λ t. IfOk c.refusal.result (λ r. answer_seen r ≡ refusal c.args.name.now t))
-    (c.as_str.ensures.value ∙ c.in_ok-text.ensures.ok ∙ ap (λ w. codes "Declaration " ++ (decimal c.args.line ++ (codes " " ++ w))) c.in_ok-why.ensures)
+    (c.as_str.ensures.value ∙ c.in_ok-text.ensures.ok ∙ ap (λ w. codes "Declaration " ++ (decimal c.args.line ++ (codes " " ++ w))) c.in_ok-why.ensures.text)
     c.refusal.ensures.answer
