@@ -7,8 +7,6 @@ mod answer;
 mod laws;
 mod lines;
 mod loading;
-#[cfg(test)]
-mod tests;
 mod world;
 
 pub use answer::batch;

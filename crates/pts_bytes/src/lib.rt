@@ -10,6 +10,3 @@ mod text;
 pub use digits::{is_digits, number_up_to};
 pub use pieces::{split_at, whole_line, without_return};
 pub use text::{is_text, text_of};
-
-#[cfg(test)]
-mod tests;

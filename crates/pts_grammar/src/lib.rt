@@ -11,8 +11,6 @@ mod parser;
 mod part;
 mod stack;
 mod state;
-#[cfg(test)]
-mod tests;
 mod tree;
 mod whole;
 

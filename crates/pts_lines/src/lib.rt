@@ -11,8 +11,6 @@ mod line;
 mod read;
 mod shape;
 mod term;
-#[cfg(test)]
-mod tests;
 mod word;
 
 pub use command::Declaring;

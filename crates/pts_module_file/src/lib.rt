@@ -8,8 +8,6 @@ mod file;
 mod item;
 mod split;
 mod stage;
-#[cfg(test)]
-mod tests;
 
 pub use fault::{FileFault, FileWhy};
 pub use file::{ModuleFile, ModuleLine, read_module};

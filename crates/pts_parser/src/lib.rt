@@ -9,8 +9,6 @@ mod part;
 mod read;
 mod resolution;
 mod scope;
-#[cfg(test)]
-mod tests;
 
 pub use fault::ReadFault;
 pub use pts_grammar::{Kind, Tree};

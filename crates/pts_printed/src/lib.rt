@@ -6,8 +6,6 @@
 mod laws;
 mod names;
 mod spellings;
-#[cfg(test)]
-mod tests;
 
 pub use laws::{
     chosen_names_capture_nothing, locals_are_told_apart, numbers_are_least,

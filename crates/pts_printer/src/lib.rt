@@ -15,8 +15,6 @@ mod outer;
 mod page;
 mod print;
 mod taken;
-#[cfg(test)]
-mod tests;
 mod writing;
 
 pub use print::{print_goal, print_term};

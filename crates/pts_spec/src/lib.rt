@@ -7,8 +7,6 @@ mod fault;
 mod keys;
 mod list;
 mod read;
-#[cfg(test)]
-mod tests;
 
 pub use fault::SpecFault;
 pub use pts_ctx::{System, SystemFault, SystemPart};

@@ -6,8 +6,6 @@
 mod fault;
 mod length;
 mod sign;
-#[cfg(test)]
-mod tests;
 mod token;
 mod tokens;
 mod word;

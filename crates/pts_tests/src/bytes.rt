@@ -1,4 +1,4 @@
-use crate::{is_digits, is_text, number_up_to, split_at, text_of, whole_line, without_return};
+use pts_bytes::{is_digits, is_text, number_up_to, split_at, text_of, whole_line, without_return};
 
 #[test]
 fn texts_are_cut_at_their_first_byte(rt: HostRuntime) {

@@ -1,9 +1,9 @@
-use crate::{
+use pts_ctx::System;
+use pts_printed::{
     chosen_names_capture_nothing, locals_are_told_apart, names_are_names, names_of_terms_are_names,
     numbers_are_least, printed_goals_are_read_back, printed_terms_are_read_back,
     sorts_of_systems_have_spellings, sorts_of_systems_stand_once,
 };
-use pts_ctx::System;
 use pts_terms::Term;
 
 /// A law is a function that does nothing.

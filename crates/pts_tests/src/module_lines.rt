@@ -1,4 +1,4 @@
-use crate::{
+use pts_lines::{
     Kind, Line, ReadFault, Tree, line_refusals_are_determined, lines_are_unambiguous, read_line,
 };
 use std::alloc::Global;

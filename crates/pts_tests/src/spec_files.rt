@@ -1,5 +1,5 @@
-use super::*;
 use pts_ctx::Sort;
+use pts_spec::{SpecFault, SystemFault, SystemPart, read_system};
 use std::alloc::Global;
 
 /// The calculus of constructions, with a sort more, an axiom twice, and a rule of three spellings.

@@ -1,4 +1,4 @@
-use crate::{FileFault, FileWhy, ModuleFile, read_module};
+use pts_module_file::{FileFault, FileWhy, ModuleFile, read_module};
 use pts_names::Name;
 use pts_parser::{Kind, ReadFault};
 use std::alloc::Global;

@@ -1,4 +1,6 @@
-use crate::{Kind, SyntaxFault, Tree, parse_term, refusals_are_determined, texts_are_unambiguous};
+use pts_grammar::{
+    Kind, SyntaxFault, Tree, parse_term, refusals_are_determined, texts_are_unambiguous,
+};
 use pts_tokens::read_tokens;
 use std::alloc::Global;
 use std::test::Fail;

@@ -1,6 +1,6 @@
-use crate::{print_goal, print_term};
 use pts_ctx::System;
 use pts_names::{Name, SortName};
+use pts_printer::{print_goal, print_term};
 use pts_terms::{Boxed, Sort, Term};
 use std::alloc::{AllocError, Global};
 use std::test::Fail;

@@ -1,8 +1,8 @@
 ghost use Rattle.std.specs.Prelude.{◌≡◌, Option, List, ℕ, IfOk};
 
-use crate::{Kind, ReadFault, Scope, read_term, read_tree, resolve};
 use pts_ctx::System;
 use pts_names::Name;
+use pts_parser::{Kind, ReadFault, Scope, read_term, read_tree, resolve};
 use pts_terms::Term;
 use std::alloc::{AllocError, Global};
 use std::test::Fail;

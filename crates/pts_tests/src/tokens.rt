@@ -1,4 +1,4 @@
-use crate::{Token, TokenFault, read_tokens};
+use pts_tokens::{Token, TokenFault, read_tokens};
 
 #[test]
 fn tokens_have_their_byte_places(rt: HostRuntime) {

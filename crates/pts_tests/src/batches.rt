@@ -1,4 +1,4 @@
-use crate::{Batch, World, batch};
+use pts_batch::{Batch, World, batch};
 use pts_ctx::{SortName, System};
 use pts_names::Name;
 use std::alloc::Global;
