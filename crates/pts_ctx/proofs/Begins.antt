@@ -1,5 +1,6 @@
 -- The test of a prefix, from a place on, and that it decides.
-use Rattle.std.proofs.Common.{◌≡◌, ℕ, ◌+◌, ◌&&◌, Bool, true, false, nat_eq, List, [], ◌∷◌, ◌++◌, drop, slice_get, Option, Some, None, refl, sym, ap, ◌∙◌, arith}
+use Rattle.std.proofs.Common.{◌≡◌, ℕ, zero, suc, ◌+◌, ◌<◌, ◌≤◌, ◌&&◌, Bool, true, false, nat_eq, List, [], ◌∷◌, ◌++◌, length, drop, slice_get, Option, Some, None, refl, sym, ap, ◌∙◌, arith}
+use Rattle.std.proofs.Math.Seq.{drop-nil}
 use Rattle.pts_names.specs.Name.{Name, same_name}
 use Rattle.pts_names.proofs.Same.{same_name-true, same_name-self}
 use Rattle.pts_terms.specs.Tree.{Named}
@@ -16,6 +17,15 @@ module _ {A : Type 0} (same : A → A → Bool) (xs ys : List A) (i : ℕ) where
 
   pub begins-step : (x y : A) → slice_get xs i ≡ Some x → slice_get ys i ≡ Some y → begins same (drop i xs) (drop i ys) ≡ (same x y && begins same (drop (i + 1) xs) (drop (i + 1) ys))
   begins-step x y at there = λ j. begins same (drop-at xs i x at j) (drop-at ys i y there j)
+
+-- A list that goes on where another has ended is no prefix of it.
+pub begins-short : {A : Type 0} (same : A → A → Bool) (xs ys : List A) (i : ℕ) → i < length xs → length ys ≤ i → begins same (drop i xs) (drop i ys) ≡ false
+begins-short same [] ys i inside past = absurd (omega arith)
+begins-short same (x ∷ xs) [] zero inside past = refl
+begins-short same (x ∷ xs) [] (suc i) inside past =
+    ap (begins same (drop i xs)) (sym (drop-nil i)) ∙ begins-short same xs [] i (omega arith) (omega arith)
+begins-short same (x ∷ xs) (y ∷ ys) zero inside past = absurd (omega arith)
+begins-short same (x ∷ xs) (y ∷ ys) (suc i) inside past = begins-short same xs ys i (omega arith) (omega arith)
 
 both : (a b : Bool) → (a && b) ≡ true → (a ≡ true) × (b ≡ true)
 both a b h = grind arith

@@ -3,9 +3,12 @@ pub mod Clashes
 pub mod Equal
 pub mod Faults
 pub mod Find
+pub mod Flat
 pub mod Known
 pub mod Labels
 pub mod Lookups
+pub mod Newest
+pub mod Orderly
 pub mod Parts
 pub mod Positions
 pub mod Tabled

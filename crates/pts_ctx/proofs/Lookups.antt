@@ -4,12 +4,10 @@ use Rattle.std.specs.List.{list_any}
 use Rattle.std.specs.Option.{option_map, option_and_then}
 use Rattle.std.specs.Cmp.Lexicographic.{pointwise}
 use Rattle.pts_names.specs.Name.{Name, same_name}
-use Rattle.pts_ctx.specs.declared.entry.Entry.{Entry}
 use Rattle.pts_ctx.specs.Front.{Global, Fresh, find}
 use Rattle.pts_ctx.specs.Seen.{place_of, NamesDiffer, global_within, globals_within}
-use Rattle.pts_ctx.specs.Entries.{global_of}
-use Rattle.pts_names.proofs.Same.{same_name-pointwise}
-use Rattle.std.proofs.lemmas.List.{map-append}
+use Rattle.pts_names.proofs.Same.{same_name-pointwise, same_name-true}
+use Rattle.std.proofs.lemmas.List.{append_assoc}
 use Rattle.pts_ctx.proofs.Parts.{around}
 use Rattle.pts_ctx.proofs.Positions.{position-step, position-map, position-alike}
 
@@ -20,11 +18,10 @@ same_name-sym (b ∷ x) [] = refl
 same_name-sym (b ∷ x) (c ∷ y) = grind (arith, same_name-sym x y)
 
 -- The index of names finds the place of an entry.
-pub place-keys : (x : Name) (es : List Entry) → position (pointwise nat_eq x) (map (λ e. e.name) es) ≡ place_of x (map global_of es)
-place-keys x es =
-    position-map (pointwise nat_eq x) (λ e. e.name) es
-    ∙ (position-alike (λ e. pointwise nat_eq x e.name) (λ e. same_name x e.name) (λ e. sym (same_name-pointwise x e.name)) es
-    ∙ sym (position-map (λ e. same_name x e.name) global_of es))
+pub place-keys : (x : Name) (G : List (Global Name)) → position (pointwise nat_eq x) (map (λ e. e.name) G) ≡ place_of x G
+place-keys x G =
+    position-map (pointwise nat_eq x) (λ e. e.name) G
+    ∙ position-alike (λ e. pointwise nat_eq x e.name) (λ e. same_name x e.name) (λ e. sym (same_name-pointwise x e.name)) G
 
 -- The entry of a name is the one at its place.
 pub find-place : {B : Type 0} (x : Name) (G : List (Global B)) → find x G ≡ option_and_then (slice_get G) (place_of x G)
@@ -60,16 +57,16 @@ place-fresh x (e ∷ G) fresh = position-step (λ d. same_name x d.name) e G ∙
     by false h rest = ap (option_map suc) (rest h)
 
 -- A fresh name is not in the index of names.
-pub list_any-fresh : (x : Name) (es : List Entry) → Fresh x (map global_of es) → list_any (pointwise nat_eq x) (map (λ e. e.name) es) ≡ false
+pub list_any-fresh : (x : Name) (G : List (Global Name)) → Fresh x G → list_any (pointwise nat_eq x) (map (λ e. e.name) G) ≡ false
 unfolding find
 list_any-fresh x [] fresh = refl
-list_any-fresh x (e ∷ es) fresh = by (same_name x e.name) refl fresh (list_any-fresh x es)
+list_any-fresh x (e ∷ G) fresh = by (same_name x e.name) refl fresh (list_any-fresh x G)
   where
-    by : (b : Bool) → same_name x e.name ≡ b → (if b then Some (global_of e) else find x (map global_of es)) ≡ None
-        → (Fresh x (map global_of es) → list_any (pointwise nat_eq x) (map (λ d. d.name) es) ≡ false)
-        → (pointwise nat_eq x e.name || list_any (pointwise nat_eq x) (map (λ d. d.name) es)) ≡ false
-    by true e h rest = absurd (cc h)
-    by false same h rest = ap (λ b. b || list_any (pointwise nat_eq x) (map (λ d. d.name) es)) (sym (same_name-pointwise x e.name) ∙ same) ∙ rest h
+    by : (b : Bool) → same_name x e.name ≡ b → (if b then Some e else find x G) ≡ None
+        → (Fresh x G → list_any (pointwise nat_eq x) (map (λ d. d.name) G) ≡ false)
+        → (pointwise nat_eq x e.name || list_any (pointwise nat_eq x) (map (λ d. d.name) G)) ≡ false
+    by true same h rest = absurd (cc h)
+    by false same h rest = ap (λ b. b || list_any (pointwise nat_eq x) (map (λ d. d.name) G)) (sym (same_name-pointwise x e.name) ∙ same) ∙ rest h
 
 -- What is fresh stays so behind an entry of another name.
 pub fresh-behind : {B : Type 0} (x : Name) (G : List (Global B)) (e : Global B) → Fresh x G → same_name x e.name ≡ false → Fresh x (G ++ e ∷ [])
@@ -110,26 +107,82 @@ both true b h = (refl, h)
 both false b h = absurd (cc h)
 
 -- Each entry of a front within limits is within limits.
-pub within-at : (es : List Entry) (k : ℕ) (d : Entry) → k < length es → globals_within (map global_of es) ≡ true → global_within (global_of (get_or es k d)) ≡ true
-within-at [] k d inside all = absurd (omega arith)
-within-at (e ∷ es) zero d inside all = (both (global_within (global_of e)) (globals_within (map global_of es)) all).0
-within-at (e ∷ es) (suc k) d inside all =
-    within-at es k d (omega arith) (both (global_within (global_of e)) (globals_within (map global_of es)) all).1
+pub within-at : (G : List (Global Name)) (k : ℕ) (e : Global Name) → slice_get G k ≡ Some e → globals_within G ≡ true → global_within e ≡ true
+within-at [] k e at all = absurd (cc at)
+within-at (d ∷ G) zero e at all =
+    let same : d ≡ e = cc at in
+    ap global_within (sym same) ∙ (both (global_within d) (globals_within G) all).0
+within-at (d ∷ G) (suc k) e at all = within-at G k e at (both (global_within d) (globals_within G) all).1
 
 -- A name that stands behind others, all of which differ, is fresh among those.
 fresh-apart : {B : Type 0} (x : Name) (G H : List (Global B)) (e : Global B) → Fresh x (G ++ e ∷ H) → same_name x e.name ≡ false
 fresh-apart x [] H e fresh = (fresh-front x e H fresh).0
 fresh-apart x (d ∷ G) H e fresh = fresh-apart x G H e (fresh-front x d (G ++ e ∷ H) fresh).1
 
-pub fresh-between : {B : Type 0} (G H : List (Global B)) (e : Global B) → NamesDiffer (G ++ e ∷ H) → Fresh e.name G
+fresh-between : {B : Type 0} (G H : List (Global B)) (e : Global B) → NamesDiffer (G ++ e ∷ H) → Fresh e.name G
 unfolding find
 fresh-between [] H e differ = refl
 fresh-between (d ∷ G) H e differ =
     ap (λ b. if b then Some d else find e.name G) (same_name-sym e.name d.name ∙ fresh-apart d.name G H e differ.0)
     ∙ fresh-between G H e differ.1
 
-pub fresh-before : (es : List Entry) (i : ℕ) (e : Entry) → slice_get es i ≡ Some e → NamesDiffer (map global_of es) → Fresh e.name (map global_of (take i es))
-fresh-before es i e at differ =
-    let whole : map global_of es ≡ map global_of (take i es) ++ global_of e ∷ map global_of (drop (i + 1) es) =
-    ap (map global_of) (sym (around es i e at)) ∙ map-append global_of (take i es) (e ∷ drop (i + 1) es) in
-    fresh-between (map global_of (take i es)) (map global_of (drop (i + 1) es)) (global_of e) (subst NamesDiffer whole differ)
+-- An entry's name is fresh among those before it, where others stand before them all.
+pub fresh-before : (A G : List (Global Name)) (i : ℕ) (e : Global Name) → slice_get G i ≡ Some e → NamesDiffer (A ++ G) → Fresh e.name (A ++ take i G)
+fresh-before A G i e at differ =
+    let whole : A ++ G ≡ (A ++ take i G) ++ e ∷ drop (i + 1) G =
+    ap (λ es. A ++ es) (sym (around G i e at)) ∙ sym (append_assoc A (take i G) (e ∷ drop (i + 1) G)) in
+    fresh-between (A ++ take i G) (drop (i + 1) G) e (subst NamesDiffer whole differ)
+
+fresh-part : {B : Type 0} (x : Name) (G H : List (Global B)) → Fresh x (G ++ H) → Fresh x G
+unfolding find
+fresh-part x [] H fresh = refl
+fresh-part x (d ∷ G) H fresh = by (same_name x d.name) fresh (fresh-part x G H)
+  where
+    by : (b : Bool) → (if b then Some d else find x (G ++ H)) ≡ None → (Fresh x (G ++ H) → Fresh x G) → (if b then Some d else find x G) ≡ None
+    by true h rest = absurd (cc h)
+    by false h rest = rest h
+
+pub fresh-right : {B : Type 0} (x : Name) (G H : List (Global B)) → Fresh x (G ++ H) → Fresh x H
+fresh-right x [] H fresh = fresh
+fresh-right x (d ∷ G) H fresh = fresh-right x G H (fresh-front x d (G ++ H) fresh).1
+
+-- Where the names of a list differ, those of its parts do.
+pub differ-left : {B : Type 0} (G H : List (Global B)) → NamesDiffer (G ++ H) → NamesDiffer G
+differ-left [] H differ = tt
+differ-left (e ∷ G) H differ = (fresh-part e.name G H differ.0, differ-left G H differ.1)
+
+pub differ-right : {B : Type 0} (G H : List (Global B)) → NamesDiffer (G ++ H) → NamesDiffer H
+differ-right [] H differ = differ
+differ-right (e ∷ G) H differ = differ-right G H differ.1
+
+pub within-left : (G H : List (Global Name)) → globals_within (G ++ H) ≡ true → globals_within G ≡ true
+within-left [] H all = refl
+within-left (e ∷ G) H all =
+    let (here, rest) = both (global_within e) (globals_within (G ++ H)) all in
+    λ j. here j && within-left G H rest j
+
+zero-plus : (n : ℕ) → n ≡ 0 + n
+zero-plus n = omega arith
+
+suc-plus : (m n : ℕ) → suc (m + n) ≡ suc m + n
+suc-plus m n = omega arith
+
+-- The place of a name in two lists, one behind the other: its place in the second, where it has one, and else in the first.
+pub place-right : {B : Type 0} (x : Name) (G H : List (Global B)) (p : ℕ) → NamesDiffer (G ++ H) → place_of x H ≡ Some p → place_of x (G ++ H) ≡ Some (length G + p)
+place-right x [] H p differ at = at ∙ ap Some (zero-plus p)
+place-right x (e ∷ G) H p differ at =
+    let further : place_of x (G ++ H) ≡ Some (length G + p) = place-right x G H p differ.1 at in
+    position-step (λ d. same_name x d.name) e (G ++ H)
+    ∙ (ap (λ b. if b then Some 0 else option_map suc (place_of x (G ++ H))) (other (same_name x e.name) refl further) ∙ (ap (option_map suc) further ∙ ap Some (suc-plus (length G) p)))
+  where
+    other : (b : Bool) → same_name x e.name ≡ b → place_of x (G ++ H) ≡ Some (length G + p) → b ≡ false
+    other false same further = refl
+    other true same further =
+        let name : x ≡ e.name = same_name-true x e.name same in
+        absurd (cc (sym further ∙ (ap (λ y. place_of y (G ++ H)) name ∙ place-fresh e.name (G ++ H) differ.0)))
+
+pub place-left : {B : Type 0} (x : Name) (G H : List (Global B)) → place_of x H ≡ None → place_of x (G ++ H) ≡ place_of x G
+place-left x [] H none = none
+place-left x (e ∷ G) H none =
+    position-step (λ d. same_name x d.name) e (G ++ H)
+    ∙ (ap (λ r. if same_name x e.name then Some 0 else option_map suc r) (place-left x G H none) ∙ sym (position-step (λ d. same_name x d.name) e G))

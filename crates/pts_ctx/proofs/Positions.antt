@@ -1,5 +1,5 @@
 -- The first place at which a test passes, one item at a time.
-use Rattle.std.proofs.Common.{◌≡◌, ℕ, suc, ◌+◌, Bool, true, false, not, cond, if◌then◌else◌, nat_lt, List, [], ◌∷◌, ◌++◌, map, length, position, Option, Some, None, refl, sym, ap, ◌∙◌, arith}
+use Rattle.std.proofs.Common.{◌≡◌, ℕ, zero, suc, ◌+◌, ◌<◌, ◌≤◌, Bool, true, false, not, cond, if◌then◌else◌, nat_lt, List, [], ◌∷◌, ◌++◌, map, length, take, position, Option, Some, None, refl, sym, ap, ◌∙◌, arith}
 use Rattle.std.specs.List.{AllByRecursion, position_from, position_or_len}
 use Rattle.std.proofs.lemmas.Iterator.Adapters.{position_from-zero}
 use Rattle.std.specs.Option.{option_map, option_or}
@@ -49,3 +49,48 @@ position-agree p q (x ∷ xs) same =
 
 pub position_from_start : {A : Type 0} (p : A → Bool) (xs : List A) → position_from p 0 xs ≡ position p xs
 position_from_start p xs = sym (position_from-zero p xs)
+
+-- The place in the first items of a list: the place in the list, where it is among them.
+abbrev below : ℕ → Option ℕ → Option ℕ
+below n None = None
+below n (Some k) = if nat_lt k n then Some k else None
+
+below-next : (n : ℕ) (r : Option ℕ) → option_map suc (below n r) ≡ below (suc n) (option_map suc r)
+below-next n None = refl
+below-next n (Some k) = by (nat_lt k n) refl
+  where
+    by : (b : Bool) → nat_lt k n ≡ b → option_map suc (if b then Some k else None) ≡ (if nat_lt (suc k) (suc n) then Some (suc k) else None)
+    by true e = grind (arith, e)
+    by false e = grind (arith, e)
+
+first-none : {A : Type 0} (p : A → Bool) (n : ℕ) → position p (take n []) ≡ None
+first-none p zero = refl
+first-none p (suc n) = refl
+
+below-zero : (r : Option ℕ) → None ≡ below 0 r
+below-zero None = refl
+below-zero (Some k) = grind arith
+
+below-first : (n : ℕ) → Some 0 ≡ below (suc n) (Some 0)
+below-first n = grind arith
+
+position_take : {A : Type 0} (p : A → Bool) (n : ℕ) (xs : List A) → position p (take n xs) ≡ below n (position p xs)
+position_take p n [] = first-none p n
+position_take p zero (x ∷ xs) = below-zero (position p (x ∷ xs))
+position_take p (suc n) (x ∷ xs) =
+    position-step p x (take n xs)
+    ∙ (by (p x) (position_take p n xs) ∙ ap (below (suc n)) (sym (position-step p x xs)))
+  where
+    by : (b : Bool) → position p (take n xs) ≡ below n (position p xs)
+        → (if b then Some 0 else option_map suc (position p (take n xs))) ≡ below (suc n) (if b then Some 0 else option_map suc (position p xs))
+    by true rest = below-first n
+    by false rest = ap (option_map suc) rest ∙ below-next n (position p xs)
+
+pub position-inside : {A : Type 0} (p : A → Bool) (n : ℕ) (xs : List A) (k : ℕ) → position p xs ≡ Some k → k < n → position p (take n xs) ≡ Some k
+position-inside p n xs k at inside = position_take p n xs ∙ (ap (below n) at ∙ grind (arith, inside))
+
+pub position-outside : {A : Type 0} (p : A → Bool) (n : ℕ) (xs : List A) (k : ℕ) → position p xs ≡ Some k → n ≤ k → position p (take n xs) ≡ None
+position-outside p n xs k at outside = position_take p n xs ∙ (ap (below n) at ∙ grind (arith, outside))
+
+pub position-absent : {A : Type 0} (p : A → Bool) (n : ℕ) (xs : List A) → position p xs ≡ None → position p (take n xs) ≡ None
+position-absent p n xs at = position_take p n xs ∙ ap (below n) at

@@ -10,7 +10,7 @@ abbrev pub part_text : SystemPart → List ℕ
 part_text Axiom = codes "Axiom"
 part_text Rule = codes "Rule"
 
--- That memory lacks is no fault of the system.
+-- Running out of memory is no fault of the system.
 abbrev pub system_text : SystemFault → List ℕ
 system_text (TooManySorts n) = codes "TooManySorts " ++ decimal n
 system_text (DuplicateSort i j) = codes "DuplicateSort " ++ (decimal i ++ (codes " " ++ decimal j))

@@ -2,6 +2,7 @@ pub mod System
 pub mod Front
 pub mod Seen
 pub mod Entries
+pub mod Chunks
 pub mod Tables
 pub mod Prefix
 pub mod Firsts

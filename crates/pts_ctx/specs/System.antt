@@ -113,7 +113,7 @@ abbrev pub SameSystem : Specification → Specification → Type 0
 SameSystem S T =
     (S.sorts ≡ T.sorts) × ((s : ℕ) → axiom_of S s ≡ axiom_of T s) × ((s r : ℕ) → rule_of S s r ≡ rule_of T s r)
 
--- What a fault means, unless it is want of memory.
+-- What a fault means, unless memory ran out.
 abbrev pub UnlessMemory : SystemFault → Type 0 → Type 0
 UnlessMemory Memory P = Unit {0}
 UnlessMemory (TooManySorts n) P = P

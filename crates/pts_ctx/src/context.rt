@@ -1,14 +1,19 @@
 // Contexts: entries and labels, found by their names.
 
-ghost use Rattle.std.specs.Prelude.{map, ◌↔◌, IsTrue, IfOk, ◌≡◌, ◌+◌, ◌<◌, ◌≤◌, ◌++◌, ◌∷◌, [], length, true, None, Some, slice_get, IfSome, OnOk};
+ghost use Rattle.std.specs.Prelude.{◌↔◌, IsTrue, IfOk, ◌≡◌, ◌+◌, ◌-◌, ◌<◌, ◌≤◌, ◌++◌, ◌∷◌, [], length, take, drop, true, None, Some, slice_get, IfSome, IfErr, OnOk};
 ghost use Rattle.std.specs.Option.{option_map, option_copied};
 ghost use Rattle.pts_ctx.specs.Front.{Fresh, find};
 ghost use Rattle.pts_ctx.specs.Seen.{place_of, label_place, global_within, globals_within, NamesDiffer, LabelsInside, IsFrontOf};
 ghost use Rattle.pts_ctx.specs.Entries.{global_of};
 ghost use Rattle.pts_ctx.specs.Prefix.{begins, same_global, same_label};
+ghost use Rattle.pts_ctx.specs.Chunks.{flat};
 
 use crate::Entry;
-use indexmap::{IndexMap, IndexSet};
+use crate::chunk::Chunk;
+use crate::chunks::{cut, entry_at, join, join_from, newest_place, share_chunks};
+use crate::part::Part;
+use crate::slot::Slot;
+use indexmap::IndexMap;
 use pts_terms::Name;
 use std::alloc::{AllocError, Global};
 use std::marker::Model;
@@ -16,32 +21,38 @@ use std::marker::Model;
 /// How many entries the context of a program has at most. A context itself takes more.
 pub const ROOM: usize = 200_000;
 
+/// Entries leave the last part this many at a time, and it keeps as many.
+const STEP: usize = 64;
+
 /// A global context: entries whose names differ, the oldest first, and labels, each with the number of entries that
 /// stood there when it was marked. Every term of it is within limits.
+///
+/// The older entries lie in chunks, which its copies share; the last part is its own. So a copy costs about the same
+/// whatever the number of entries.
 #[derive(Drop)]
 pub struct Context {
-    entries: Vec<Entry>,
-    names: IndexSet<Name>,
+    chunks: Vec<Chunk>,
+    older: usize,
+    last: Part,
     labels: IndexMap<Name, usize>,
     alloc: Global,
 }
 
 impl Model for Context {
-    ghost use Rattle.std.specs.Prelude.{◌≡◌, ◌-◌, true, length, map, min, vec_len, vec_capacity};
+    ghost use Rattle.std.specs.Prelude.{◌≡◌, ◌-◌, ◌^◌, ◌++◌, length, min};
     ghost use Rattle.std.specs.Coded.{codes};
     ghost use Rattle.indexmap.specs.IndexMap.{spare};
-    ghost use Rattle.indexmap.specs.IndexSet.{spare as name_spare};
     ghost use Rattle.pts_terms.specs.Code.{coded_tree};
-    ghost use Rattle.pts_ctx.specs.Seen.{SeenContext, NamesDiffer, LabelsInside, globals_within};
-    ghost use Rattle.pts_ctx.specs.Entries.{global_of};
+    ghost use Rattle.pts_ctx.specs.Seen.{SeenContext};
+    ghost use Rattle.pts_ctx.specs.Chunks.{flat, IsOrderly};
 
     ghost Value = { SeenContext };
 
     ghost coded = { Prim.hlevel (codes, coded_tree) };
 
-    ghost view = { λ c. record { entries = map global_of c.entries.items; labels = c.labels.entries; spare_entries = min (vec_capacity c.entries - vec_len c.entries) (name_spare c.names); spare_labels = spare c.labels } };
+    ghost view = { λ c. record { entries = flat c.chunks.items ++ c.last.entries; labels = c.labels.entries; spare_entries = min c.last.spare (2 ^ 64 - 1 - length (flat c.chunks.items ++ c.last.entries)); spare_labels = spare c.labels } };
 
-    ghost invariant = { λ c. (c.names.keys ≡ map (λ e. e.name) c.entries.items) × NamesDiffer (map global_of c.entries.items) × (globals_within (map global_of c.entries.items) ≡ true) × LabelsInside (length (map global_of c.entries.items)) c.labels.entries };
+    ghost invariant = { λ c. (c.older ≡ length (flat c.chunks.items)) × IsOrderly (flat c.chunks.items ++ c.last.entries) c.labels.entries };
 }
 
 impl Context {
@@ -51,8 +62,9 @@ impl Context {
         ensures labels { result.labels ≡ [] }
     {
         Context {
-            entries: Vec::new(alloc),
-            names: IndexSet::new(alloc),
+            chunks: Vec::new(alloc),
+            older: 0,
+            last: Part::new(alloc),
             labels: IndexMap::new(alloc),
             alloc,
         }
@@ -62,7 +74,7 @@ impl Context {
     pub fn len(&self) -> usize
         ensures { result ≡ length self.now.entries }
     {
-        self.entries.len()
+        self.older + self.last.len()
     }
 
     /// The entry at a place.
@@ -71,7 +83,11 @@ impl Context {
         ensures entry { slice_get self.now.entries place ≡ Some (global_of result.now) }
         ensures within { global_within (global_of result.now) ≡ true }
     {
-        &self.entries[place]
+        if place < self.older {
+            entry_at(&self.chunks, place)
+        } else {
+            self.last.entry(place - self.older)
+        }
     }
 
     /// The place of a name.
@@ -80,7 +96,10 @@ impl Context {
         ensures entry { IfSome result (λ k. slice_get self.now.entries k ≡ find name.now self.now.entries) }
         ensures fresh { (result ≡ None) ↔ Fresh name.now self.now.entries }
     {
-        self.names.get_index_of(name)
+        match self.last.place_of(name) {
+            Some(place) => Some(self.older + place),
+            None => newest_place(&self.chunks, self.older, name),
+        }
     }
 
     /// The entry of a name.
@@ -102,21 +121,21 @@ impl Context {
         self.labels.get(label).copied()
     }
 
-    /// What is sure of every context: its names differ, its terms are within limits, and no label stands behind the
+    /// What is sure of every context: its names differ, its terms are within limits, and no label comes after the
     /// last entry.
     pub fn is_orderly(&self)
         ensures names { NamesDiffer self.now.entries }
         ensures within { globals_within self.now.entries ≡ true }
         ensures labels { LabelsInside (length self.now.entries) self.now.labels }
     {
-        let _ = &self.entries;
+        let _ = &self.chunks;
     }
 
     /// Whether both lists are prefixes of the other's: the same entries, with their printed names, and the same labels.
     pub fn is_front_of(&self, other: &Context) -> bool
         ensures { IsTrue result ↔ IsFrontOf self.now other.now }
     {
-        entries_begin(&self.entries, &other.entries) && labels_begin(&self.labels, &other.labels)
+        entries_begin(self, other) && labels_begin(&self.labels, &other.labels)
     }
 
     /// The same entries and labels again.
@@ -124,12 +143,20 @@ impl Context {
         ensures entries { IfOk result (λ c. c.entries ≡ self.now.entries) }
         ensures labels { IfOk result (λ c. c.labels ≡ self.now.labels) }
     {
-        let mut copy = copy_entries(self.alloc, &self.entries)?;
-        copy.labels = copy_labels(self.alloc, &self.labels)?;
-        Ok(copy)
+        let chunks = share_chunks(self.alloc, &self.chunks)?;
+        let mut last = Part::new(self.alloc);
+        last.add(self.alloc, self.last.slots())?;
+        let labels = copy_labels(self.alloc, &self.labels)?;
+        Ok(Context {
+            chunks,
+            older: self.older,
+            last,
+            labels,
+            alloc: self.alloc,
+        })
     }
 
-    /// Makes room for this many more entries and labels.
+    /// Makes room for this many more entries and labels. Entries of a long last part go into a chunk.
     pub fn reserve(&mut self, entries: usize, labels: usize) -> Result<(), AllocError>
         ensures entries { self.new.entries ≡ self.old.entries }
         ensures labels { self.new.labels ≡ self.old.labels }
@@ -137,12 +164,18 @@ impl Context {
         ensures spare_entries { self.old.spare_entries ≤ self.new.spare_entries }
         ensures spare_labels { self.old.spare_labels ≤ self.new.spare_labels }
     {
-        self.entries.reserve(entries)?;
-        self.names.reserve(entries)?;
+        if entries > usize::MAX - self.len() {
+            return Err(AllocError);
+        }
+        self.last.share(self.alloc);
+        if self.last.len() >= 2 * STEP {
+            self.older += move_out(self.alloc, &mut self.chunks, &mut self.last)?;
+        }
+        self.last.reserve(entries)?;
         self.labels.reserve(labels)
     }
 
-    /// Adds an entry behind the others. It takes no memory: the context keeps `key` to find the entry by its name.
+    /// Adds an entry after the others. It takes no memory: the context keeps `key` to find the entry by its name.
     pub fn push(&mut self, entry: Entry, key: Name)
         requires fresh { Fresh entry.name self.old.entries }
         requires key { key ≡ entry.name }
@@ -153,13 +186,26 @@ impl Context {
         ensures spare_entries { self.old.spare_entries ≤ self.new.spare_entries + 1 }
         ensures spare_labels { self.new.spare_labels ≡ self.old.spare_labels }
     {
-        match self.names.insert(key) {
-            Ok(_) => {}
-            Err(_) => unreachable!(),
-        }
-        match self.entries.push(entry) {
-            Ok(()) => {}
-            Err(_) => unreachable!(),
+        self.last.push(Slot::new(entry), key);
+    }
+
+    /// Takes this many last entries off. It takes no memory, and in the last part it takes no time that grows with the
+    /// context.
+    pub fn cut(&mut self, entries: usize)
+        requires inside { entries ≤ length self.old.entries }
+        requires labels { LabelsInside (length self.old.entries - entries) self.old.labels }
+        ensures entries { self.new.entries ≡ take (length self.old.entries - entries) self.old.entries }
+        ensures labels { self.new.labels ≡ self.old.labels }
+        ensures spare_entries { self.old.spare_entries ≤ self.new.spare_entries }
+        ensures spare_labels { self.new.spare_labels ≡ self.old.spare_labels }
+    {
+        let own = self.last.len();
+        if entries <= own {
+            self.last.truncate(own - entries);
+        } else {
+            self.last.truncate(0);
+            cut(&mut self.chunks, entries - own);
+            self.older -= entries - own;
         }
     }
 
@@ -172,21 +218,21 @@ impl Context {
         ensures spare_entries { self.new.spare_entries ≡ self.old.spare_entries }
         ensures spare_labels { self.old.spare_labels ≤ self.new.spare_labels + 1 }
     {
-        match self.labels.insert(label, self.entries.len()) {
+        match self.labels.insert(label, self.older + self.last.len()) {
             Ok(_) => {}
             Err(_) => unreachable!(),
         }
     }
 }
 
-fn entries_begin(one: &[Entry], other: &[Entry]) -> bool
-    ensures { result ≡ begins same_global (map global_of one.now) (map global_of other.now) }
+fn entries_begin(one: &Context, other: &Context) -> bool
+    ensures { result ≡ begins same_global one.now.entries other.now.entries }
 {
-    for (place, entry) in one.iter().enumerate() {
+    for place in 0..one.len() {
         if place >= other.len() {
             return false;
         }
-        if !entry.same(&other[place]) {
+        if !one.entry(place).same(other.entry(place)) {
             return false;
         }
     }
@@ -216,19 +262,29 @@ fn is_one_label(label: &Name, entries: usize, other_label: &Name, other_entries:
     label.same(other_label) && entries == other_entries
 }
 
-fn copy_entries(alloc: Global, entries: &[Entry]) -> Result<Context, AllocError>
-    requires names { NamesDiffer (map global_of entries.now) }
-    requires within { globals_within (map global_of entries.now) ≡ true }
-    ensures entries { IfOk result (λ c. c.entries ≡ map global_of entries.now) }
-    ensures labels { IfOk result (λ c. c.labels ≡ []) }
+/// Moves the oldest entries of the last part into a chunk, with those of the chunks that are joined, and answers how many
+/// these were.
+fn move_out(alloc: Global, chunks: &mut Vec<Chunk>, last: &mut Part) -> Result<usize, AllocError>
+    requires full { 128 ≤ length last.old.entries }
+    requires differ { NamesDiffer (flat chunks.old.items ++ last.old.entries) }
+    ensures entries { flat chunks.new.items ++ last.new.entries ≡ flat chunks.old.items ++ last.old.entries }
+    ensures moved { IfOk result (λ n. length (flat chunks.new.items) ≡ length (flat chunks.old.items) + n) }
+    ensures stays { IfErr result (λ _. length (flat chunks.new.items) ≡ length (flat chunks.old.items)) }
+    ensures spare { last.old.spare ≤ last.new.spare }
 {
-    let mut copy = Context::new(alloc);
-    copy.reserve(entries.len(), 0)?;
-    for entry in entries {
-        let key = entry.name.copy()?;
-        copy.push(entry.copy(alloc)?, key);
+    let moved = last.len() - last.len() % STEP - STEP;
+    chunks.reserve(1)?;
+    let from = join_from(chunks, moved);
+    let (_, joined) = chunks.split_at(from);
+    let (oldest, _) = last.slots().split_at(moved);
+    let chunk = Chunk::new(alloc, join(alloc, joined, oldest)?)?;
+    chunks.truncate(from);
+    match chunks.push(chunk) {
+        Ok(()) => {}
+        Err(_) => unreachable!(),
     }
-    Ok(copy)
+    last.drop_first(moved);
+    Ok(moved)
 }
 
 fn copy_labels(

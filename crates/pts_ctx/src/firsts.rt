@@ -39,7 +39,7 @@ impl Firsts {
         })
     }
 
-    /// One more line, at the place behind the others.
+    /// One more line, at the place after the others.
     pub fn note(&mut self, place: usize, left: usize, right: Sort)
         requires rights { left < length self.old.rights.items }
         requires places { left < length self.old.places.items }

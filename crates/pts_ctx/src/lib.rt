@@ -3,10 +3,14 @@
 // It stands on the terms and names below it, and finds names by `indexmap`.
 #![tactic(auto)]
 
+mod chunk;
+mod chunks;
 mod context;
 mod entry;
 mod firsts;
+mod part;
 mod places;
+mod slot;
 mod system;
 
 pub use context::{Context, ROOM};

@@ -16,7 +16,7 @@ use std::fmt;
 use std::fmt::{Display, Formatter};
 use std::marker::Model;
 
-/// Where a sort that isn't declared stands.
+/// Where a sort that isn't declared is.
 #[derive(Clone, Copy, Debug, PartialEq, Eq)]
 pub enum SystemPart {
     Axiom,

@@ -1,5 +1,4 @@
-use Rattle.std.proofs.Common.{map, ◌≡◌, ◌∙◌, sym, true}
-use Rattle.pts_ctx.specs.Entries.{global_of}
+use Rattle.std.proofs.Common.{◌≡◌, ◌∙◌, sym, true}
 use Rattle.pts_ctx.specs.Prefix.{begins, same_global, same_label}
 use Rattle.pts_ctx.proofs.Begins.{prefix_from_begins, begins_from_prefix, same_global-true, same_global-self, same_label-true, same_label-self}
 use Rattle.pts_ctx.proofs.context.Context.is_front_of.Goals as goal
@@ -8,11 +7,7 @@ pub returns-then-entries_begin : goal.returns-then-entries_begin
 returns-then-entries_begin c =
     let S = c.args.self.now in
     let T = c.args.other.now in
-    let alike : begins same_global (map global_of c.deref.result.now) (map global_of c.deref-2.result.now) ≡ begins same_global S.entries T.entries =
-    (λ j. begins same_global (map global_of (c.deref.ensures.value j)) (map global_of (c.deref-2.ensures.value j)))
-    ∙ (λ j. begins same_global (c.self.view_is j).entries (c.other.view_is j).entries) in
-    let entries : begins same_global S.entries T.entries ≡ true =
-    sym (c.entries_begin.ensures ∙ alike) ∙ c.if-entries_begin.true in
+    let entries : begins same_global S.entries T.entries ≡ true = sym c.entries_begin.ensures ∙ c.if-entries_begin.true in
     let labels : c.labels_begin.result ≡ begins same_label S.labels T.labels = c.labels_begin.ensures ∙ (λ j. begins same_label (c.self.view_is j).labels (c.other.view_is j).labels) in (
       λ h. (
         prefix_from_begins same_global same_global-true same_global-self S.entries T.entries entries,
@@ -24,11 +19,7 @@ returns-then-entries_begin c =
 pub returns-else-entries_begin : goal.returns-else-entries_begin
 returns-else-entries_begin c =
     let S = c.args.self.now in
-    let T = c.args.other.now in
-    let alike : begins same_global (map global_of c.deref.result.now) (map global_of c.deref-2.result.now) ≡ begins same_global S.entries T.entries =
-    (λ j. begins same_global (map global_of (c.deref.ensures.value j)) (map global_of (c.deref-2.ensures.value j)))
-    ∙ (λ j. begins same_global (c.self.view_is j).entries (c.other.view_is j).entries) in
-    let entries : c.entries_begin.result ≡ begins same_global S.entries T.entries = c.entries_begin.ensures ∙ alike in (
+    let T = c.args.other.now in (
       λ h. absurd (cc (h, c.if-entries_begin.false)),
-      λ f. entries ∙ begins_from_prefix same_global same_global-true same_global-self S.entries T.entries f.0,
+      λ f. c.entries_begin.ensures ∙ begins_from_prefix same_global same_global-true same_global-self S.entries T.entries f.0,
     )
