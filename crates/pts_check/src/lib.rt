@@ -17,4 +17,4 @@ mod verdict;
 pub use pts_ctx::{Context, Entry, System};
 pub use pts_record::{Declaration, Form, Name, Node, Record, Shape, Sort, Term};
 pub use pts_rules::Why;
-pub use verdict::{Verdict, check, concludes, declaration_fault};
+pub use verdict::{Verdict, check, concluded_limits, concludes, declaration_fault};

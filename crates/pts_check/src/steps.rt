@@ -69,7 +69,7 @@ fn is_body(front: &Context, proof: &Record, name: &Name, target: usize) -> bool
     }
 }
 
-// Whether a term is the definition of an index, behind the entry itself.
+// Whether a term is the definition of an index, after the entry itself.
 #[tactic(auto, using(crate::proofs::Stepped::definition_at_is))]
 fn is_definition(proof: &Record, ctx: usize, index: u32, target: usize) -> bool
     requires ctx { ctx < length proof.now.nodes }

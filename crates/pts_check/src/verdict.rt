@@ -71,6 +71,19 @@ pub fn concludes(front: &Context, declaration: &Declaration) -> bool
     }
 }
 
+/// The terms of a declaration that its record concludes are within limits, as those of the record. This is said, and
+/// nothing is done.
+pub fn concluded_limits(declaration: &Declaration)
+    requires { concludes declaration.now.proof (bare_declared declaration.now) ≡ true }
+    ensures { global_within (declared declaration.now) ≡ true }
+{
+    let proof = &declaration.proof;
+    let last = proof.nodes() - 1;
+    let terms = terms_of(proof, last);
+    proof.limits(terms.subject);
+    proof.limits(terms.claim);
+}
+
 /// What is wrong with a declaration over a front: the first fault of its record, with the node; or `Conclusion` at the
 /// number of nodes, where the record is valid and does not conclude it. It takes no memory, and goes over each node once.
 ///
