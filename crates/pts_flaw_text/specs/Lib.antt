@@ -1,1 +1,2 @@
 pub mod FlawText
+pub mod InferText
