@@ -9,12 +9,14 @@ use Rattle.pts_io.specs.declared.lines.Input.{Input}
 use Rattle.pts_io.specs.declared.lines.Input.TheVariants.{Text, Bad, TooMuch, End}
 use Rattle.pts_io.specs.Lines.{Reading, within, IsNext, behind}
 use Rattle.pts_io.proofs.Known.{append_known-nil, append_known-append}
-use Rattle.pts_format.specs.declared.ended.Ended.{Ended}
-use Rattle.pts_format.specs.declared.ended.Ended.TheVariants as ended
+use Rattle.pts_io.specs.declared.ended.Ended.{Ended}
+use Rattle.pts_io.specs.declared.ended.Ended.TheVariants as ended
 use Rattle.pts_format.specs.Lines.{AnswersSome, AnswersAll, AnswersFirst, none_yet}
 use Rattle.pts_format.specs.Calls.{Replies, EndsBy}
-use Rattle.pts_format.specs.Ends.{IsCount, Shows, EndAnswers}
-use Rattle.pts_format.proofs.Progress.{Stands, if_some_map, goes_on, answers_some, answers_all, answers_within, answers_given}
+use Rattle.pts_io.specs.Ends.{IsCount}
+use Rattle.pts_format.specs.Ends.{Shows, EndAnswers}
+use Rattle.pts_io.proofs.Turns.{if_some_map, ahead_kept, not_over, line_written}
+use Rattle.pts_format.proofs.Progress.{Stands, goes_on, answers_some, answers_all, answers_within, answers_given}
 
 -- What is said of a call that came to this end.
 abbrev pub Report : (sorts : List (List ℕ)) (limit : ℕ) (given given_after : ℕ) (left written written_after : Option (List ℕ)) → Ended → Type 0
@@ -38,10 +40,6 @@ some_answered sorts limit left r ahead k out s = if_some_map left (λ bytes. Sta
 pub memory_report : (sorts : List (List ℕ)) (limit given given_after : ℕ) (left written written_after : Option (List ℕ)) (r : Reading) (ahead : Option (List ℕ)) (k n : ℕ) (out : List ℕ) → given_after ≡ raised given n → n ≤ limit → written_after ≡ append_known written out → Stood sorts limit left r ahead k out → Report sorts limit given given_after left written written_after ended.NoMemory
 memory_report sorts limit given given_after left written written_after r ahead k n out g l w s = (n, g, l, (out, w, some_answered sorts limit left r ahead k out s))
 
-ahead_kept : (e : ReadFail) (o : Option (List ℕ)) → option_map (behind {E = ReadFail} (Err e)) o ≡ o
-ahead_kept e None = refl
-ahead_kept e (Some bytes) = refl
-
 pub failed_report : (sorts : List (List ℕ)) (limit given given_after : ℕ) (left written written_after : Option (List ℕ)) (old new : Reading) (ahead rest : Option (List ℕ)) (k : ℕ) (out : List ℕ) (e : ReadFail) → given_after ≡ raised given new.taken → new.taken ≤ limit → new.limit ≡ limit → written_after ≡ append_known written out → Stood sorts limit left old ahead k out → prepend_known new.held rest ≡ option_map (behind {E = ReadFail} (Err e)) ahead → ¬ Contains new.held 10 → IfSome ahead (λ b. within new + length b ≡ within old + length b) → Report sorts limit given given_after left written written_after ended.ReadFailed
 failed_report sorts limit given given_after left written written_after old new ahead rest k out e g l lim w s is none room = (
   new.taken,
@@ -49,9 +47,6 @@ failed_report sorts limit given given_after left written written_after old new a
   l,
   (out, w, if_some_map left (λ bytes. Stands sorts limit bytes old ahead k out) (λ bytes. AnswersFirst sorts new.taken bytes out) (λ bytes x. answers_given sorts limit bytes old new ahead rest k out x (is ∙ ahead_kept e ahead) lim l none room) s),
 )
-
-not_over : (limit taken : ℕ) → ¬ (limit < taken) → taken ≤ limit
-not_over limit taken h = let l = lt_of_not-le h in omega (arith, l)
 
 pub ended_report : (sorts : List (List ℕ)) (limit given given_after : ℕ) (left written written_after : Option (List ℕ)) (old new : Reading) (ahead : Option (List ℕ)) (k : ℕ) (out : List ℕ) (input : Input) (e : Ended) → EndsBy input e → new.limit ≡ limit → ((◌≡◌ {A = Result Input ReadFail} (Ok input) (Ok TooMuch)) ↔ (new.limit < new.taken)) → given_after ≡ raised given new.taken → new.taken ≤ suc limit → written_after ≡ append_known written out → Stood sorts limit left old ahead k out → IfSome ahead (λ b. IsNext (within old) b input) → Report sorts limit given given_after left written written_after e
 ended_report sorts limit given given_after left written written_after old new ahead k out (Text text) e is lim over g most w s next =
@@ -74,11 +69,7 @@ line_stood sorts limit left old new ahead after k next out line input is s r pas
     subst (λ n. Stood sorts limit left new after n (out ++ line)) (sym is)
     (if_some_map left (λ bytes. Stands sorts limit bytes old ahead k out) (λ bytes. Stands sorts limit bytes new after (suc k) (out ++ line)) (λ bytes x. goes_on sorts limit bytes old new ahead after k out line input x (subst (λ n. Replies sorts n input line) is r) past answer room) s)
 
--- and written
-pub line_written : (written now after : Option (List ℕ)) (out line : List ℕ) → now ≡ append_known written out → after ≡ append_known now line → after ≡ append_known written (out ++ line)
-line_written written now after out line is more = more ∙ (ap (λ o. append_known o line) is ∙ append_known-append written out line)
-
--- or in part
+-- and written in part
 pub write_report : (sorts : List (List ℕ)) (limit given given_after : ℕ) (left written now written_after : Option (List ℕ)) (new : Reading) (after : Option (List ℕ)) (k : ℕ) (out line bytes : List ℕ) → bytes ≡ line → given_after ≡ raised given new.taken → new.taken ≤ limit → now ≡ append_known written out → ((m : ℕ) × (m ≤ length bytes) × (written_after ≡ append_known now (take m bytes))) → Stood sorts limit left new after k (out ++ line) → Report sorts limit given given_after left written written_after ended.WriteFailed
 write_report sorts limit given given_after left written now written_after new after k out line bytes same g l is part s =
     let (m, below, more) = subst (λ b. (m : ℕ) × (m ≤ length b) × (written_after ≡ append_known now (take m b))) same part in (

@@ -10,13 +10,10 @@ use Rattle.pts_io.specs.declared.faults.ReadFail.{ReadFail}
 use Rattle.pts_io.specs.declared.lines.Input.{Input}
 use Rattle.pts_io.specs.declared.lines.Input.TheVariants.{Text, Bad, TooMuch, End}
 use Rattle.pts_io.specs.Lines.{Reading, within, IsNext, behind}
+use Rattle.pts_io.proofs.Turns.{if_some_map, drop_shorter, held_front}
 use Rattle.pts_format.specs.Lines.{Answered, none_yet, one_more, AnswersSome, AnswersAll, AnswersFirst}
 use Rattle.pts_format.specs.Calls.{Replies}
 use Rattle.pts_format.proofs.Steps.{reply_says}
-
-pub if_some_map : {A : Type 0} (o : Option A) (P Q : A → Type 0) → ((a : A) → P a → Q a) → IfSome o P → IfSome o Q
-if_some_map None P Q f p = tt
-if_some_map (Some a) P Q f p = f a p
 
 -- Of the bytes k lines are answered by out, and the reader and the source have the rest.
 pub record Stands (sorts : List (List ℕ)) (limit : ℕ) (bytes : List ℕ) (r : Reading) (ahead : Option (List ℕ)) (k : ℕ) (out : List ℕ) : Type 0 where
@@ -34,15 +31,6 @@ begins sorts limit r (Some bytes) h t l = record {
   left = ap (λ held. prepend_known held (Some bytes)) h;
   room = omega (arith, ap length h, t, l);
 }
-
--- what is left gets no longer
-drop_shorter : (bytes : List ℕ) → length (drop_through 10 bytes) ≤ length bytes
-drop_shorter [] = omega arith
-drop_shorter (x ∷ xs) = by_feed (x == 10) (drop_shorter xs)
-  where
-    by_feed : (b : Bool) → length (drop_through 10 xs) ≤ length xs → length (if b then xs else drop_through 10 xs) ≤ suc (length xs)
-    by_feed true l = omega arith
-    by_feed false l = omega (arith, l)
 
 pub left_shorter : {sorts : List (List ℕ)} {bytes : List ℕ} {k : ℕ} {left out : List ℕ} → Answered sorts bytes k left out → length left ≤ length bytes
 left_shorter none_yet = omega arith
@@ -91,14 +79,4 @@ answers_given sorts limit bytes old new ahead left k out s is lim below none roo
     let w = subst (λ a. IfSome a (λ b. within new + length b ≡ within old + length b)) s.left room in
     let shorter = left_shorter s.done in
     let count : new.taken - (length bytes - length s.rest) ≡ length new.held = omega (arith, s.room, shorter, w, lim, below) in
-    (k, s.rest, s.done, omega (arith, s.room, w, lim, below), λ c. none (subst (λ b. Contains b 10) (ap (λ m. take m s.rest) count ∙ front new.held left s.rest (is ∙ s.left)) c))
-  where
-    front : (held : List ℕ) (o : Option (List ℕ)) (rest : List ℕ) → prepend_known held o ≡ Some rest → take (length held) rest ≡ held
-    front held None rest h = absurd (cc h)
-    front held (Some ys) rest h =
-        let e : held ++ ys ≡ rest = cc h in
-        ap (take (length held)) (sym e) ∙ (take-append-le (length held) held ys (omega arith) ∙ take_all (length held) held (omega arith))
-
--- counts of bytes that were taken one after another
-pub raised_on : (given now new from to : ℕ) → now ≡ raised given from → new ≡ raised now (to - from) → from ≤ to → new ≡ raised given to
-raised_on given now new from to first second grows = omega (arith, first, second, grows)
+    (k, s.rest, s.done, omega (arith, s.room, w, lim, below), λ c. none (subst (λ b. Contains b 10) (ap (λ m. take m s.rest) count ∙ held_front new.held left s.rest (is ∙ s.left)) c))

@@ -8,7 +8,8 @@ use Rattle.pts_parser.specs.declared.fault.ReadFault.TheVariants.{Memory}
 use Rattle.pts_parser.specs.Reading.{Means, RefusesTerm}
 use Rattle.pts_io.specs.declared.lines.Input.{Input}
 use Rattle.pts_io.specs.declared.lines.Input.TheVariants.{Text, Bad, TooMuch, End}
-use Rattle.pts_io.specs.Lines.{IsNext, HasLine}
+use Rattle.pts_io.specs.Lines.{IsNext}
+use Rattle.pts_io.proofs.Turns.{has_bytes}
 use Rattle.pts_format.specs.Words.{refusal_line}
 use Rattle.pts_format.specs.Lines.{no_constants, term_line, TextSays, a_term, refused, LineSays, a_text, no_text}
 use Rattle.pts_format.specs.Calls.{Replies}
@@ -20,11 +21,6 @@ term_said seen (Err f) sorts text t m e = tt
 pub refusal_said : {A E : Type 0} (seen : A → List ℕ) (r : Result A E) (sorts : List (List ℕ)) (text : List ℕ) (e : ReadFault) → RefusesTerm text 0 sorts no_constants [] e → IfOk r (λ a. seen a ≡ refusal_line e) → OnOk r (e ≢ Memory) → IfOk r (λ a. TextSays sorts text (seen a))
 refusal_said seen (Ok a) sorts text e m h n = refused e n m h
 refusal_said seen (Err f) sorts text e m h n = tt
-
--- a line within the limit is a line
-has_bytes : (most : ℕ) (bytes : List ℕ) → HasLine most bytes → 0 < length bytes
-has_bytes most bytes (inl (k, inside, here)) = omega (arith, length-take most bytes, inside)
-has_bytes most bytes (inr h) = h.0
 
 -- A reply to what was read of the bytes ahead is the answer to their first line.
 pub reply_says : (sorts : List (List ℕ)) (k most : ℕ) (bytes line : List ℕ) (input : Input) → IsNext most bytes input → Replies sorts k input line → (0 < length bytes) × LineSays sorts k (first_line bytes) line

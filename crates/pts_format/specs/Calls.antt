@@ -2,8 +2,8 @@
 use Rattle.std.specs.Prelude.{◌≡◌, ℕ, List, string_bytes}
 use Rattle.pts_io.specs.declared.lines.Input.{Input}
 use Rattle.pts_io.specs.declared.lines.Input.TheVariants.{Text, Bad, TooMuch, End}
-use Rattle.pts_format.specs.declared.ended.Ended.{Ended}
-use Rattle.pts_format.specs.declared.ended.Ended.TheVariants as ended
+use Rattle.pts_io.specs.declared.ended.Ended.{Ended}
+use Rattle.pts_io.specs.declared.ended.Ended.TheVariants as ended
 use Rattle.pts_format.specs.Words.{bad_line}
 use Rattle.pts_format.specs.Lines.{TextSays}
 

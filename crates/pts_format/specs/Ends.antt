@@ -1,17 +1,9 @@
 -- What was printed where the lines came to their end.
-use Rattle.std.specs.Prelude.{◌≡◌, ℕ, suc, ◌<◌, ◌≤◌, List, length, take, Option}
+use Rattle.std.specs.Prelude.{◌≡◌, ℕ, ◌<◌, ◌≤◌, List, length, take, Option}
 use Rattle.std.specs.Io.KnownBytes.{append_known}
-use Rattle.pts_format.specs.declared.ended.Ended.{Ended}
-use Rattle.pts_format.specs.declared.ended.Ended.TheVariants.{Whole, ReadFailed, TooMuch, WriteFailed, NoMemory}
+use Rattle.pts_io.specs.declared.ended.Ended.{Ended}
+use Rattle.pts_io.specs.declared.ended.Ended.TheVariants.{Whole, ReadFailed, TooMuch, WriteFailed, NoMemory}
 use Rattle.pts_format.specs.Lines.{AnswersSome, AnswersAll, AnswersFirst}
-
--- How many bytes were taken.
-abbrev pub IsCount : ℕ → Ended → ℕ → Type 0
-IsCount limit Whole n = n ≤ limit
-IsCount limit ReadFailed n = n ≤ limit
-IsCount limit TooMuch n = n ≡ suc limit
-IsCount limit WriteFailed n = n ≤ limit
-IsCount limit NoMemory n = n ≤ limit
 
 -- The text was printed, or a front part of it where the sink failed.
 abbrev pub Shows : Ended → Option (List ℕ) → Option (List ℕ) → List ℕ → Type 0

@@ -41,7 +41,7 @@ AnswersSome sorts bytes out = (k : ℕ) × (left : List ℕ) × Answered sorts b
 abbrev pub AnswersAll : List (List ℕ) → List ℕ → List ℕ → Type 0
 AnswersAll sorts bytes out = (k : ℕ) × Answered sorts bytes k [] out
 
--- Each line is answered that ends by a line feed within the first n bytes, and none that goes on behind them.
+-- Each line is answered that ends by a line feed within the first n bytes, and none that goes on after them.
 abbrev pub AnswersFirst : List (List ℕ) → ℕ → List ℕ → List ℕ → Type 0
 AnswersFirst sorts n bytes out =
     (k : ℕ) × (left : List ℕ) × Answered sorts bytes k left out × (length bytes ≤ n + length left) × ¬ Contains (take (n - (length bytes - length left)) left) 10

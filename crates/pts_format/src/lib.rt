@@ -3,13 +3,12 @@
 //! Stands on the reader and the printer of terms, and on the outside.
 #![tactic(auto)]
 
-mod ended;
 mod laws;
 mod lines;
 mod scope;
 mod text;
 mod words;
 
-pub use ended::Ended;
 pub use laws::{lines_have_one_answer, printed_lines_are_read_back, texts_have_one_answer};
 pub use lines::format_lines;
+pub use pts_io::Ended;

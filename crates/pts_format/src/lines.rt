@@ -1,19 +1,19 @@
 ghost use Rattle.std.specs.Prelude.{◌≡◌, ◌≢◌, ℕ, List, IfSome};
 ghost use Rattle.pts_io.specs.Counts.{raised, Rose};
-ghost use Rattle.pts_format.specs.declared.ended.Ended.{Ended};
-ghost use Rattle.pts_format.specs.Ends.{IsCount, Shows, EndAnswers};
+ghost use Rattle.pts_io.specs.declared.ended.Ended.{Ended};
+ghost use Rattle.pts_io.specs.Ends.{IsCount};
+ghost use Rattle.pts_format.specs.Ends.{Shows, EndAnswers};
 
-use crate::ended::Ended;
 use crate::text::answer_input;
 use pts_ctx::System;
-use pts_io::{LineReader, ReadFail, Sink, Source, write_whole};
+use pts_io::{Ended, LineReader, ReadFail, Sink, Source, write_whole};
 use std::alloc::Global;
 
 /// Reads the source line by line and answers each as soon as it is read: by the closed term that it says over no
 /// constants, printed, or by the refusal of it. No more than `limit` bytes are read.
 ///
 /// Answers how that came to its end. `ReadFailed` comes only where the source's count of faults rose, `WriteFailed` only
-/// where the sink's did, and `TooMuch` exactly where a byte behind the limit was taken. Each line that was read whole was
+/// where the sink's did, and `TooMuch` exactly where a byte after the limit was taken. Each line that was read whole was
 /// answered before.
 pub fn format_lines<S: Source, K: Sink>(
     alloc: Global,

@@ -3,11 +3,10 @@ ghost use Rattle.pts_terms.specs.Seen.{named};
 ghost use Rattle.pts_format.specs.Lines.{term_line, TextSays};
 ghost use Rattle.pts_format.specs.Calls.{Replies, EndsBy};
 
-use crate::ended::Ended;
 use crate::scope::NoConstants;
 use crate::words::{bad_line, refusal_line};
 use pts_ctx::System;
-use pts_io::Input;
+use pts_io::{Ended, Input};
 use pts_parser::read_term;
 use pts_printer::print_term;
 use pts_terms::Term;

@@ -5,7 +5,7 @@ ghost use Rattle.pts_format.specs.Words.{refusal_line, bad_line};
 use pts_parser::ReadFault;
 use std::alloc::{AllocError, Global};
 
-/// `refused` with the refusal. That memory lacks is none.
+/// `refused` with the refusal. Running out of memory is none.
 pub(crate) fn refusal_line(alloc: Global, fault: &ReadFault) -> Result<String, AllocError>
     ensures line { IfOk result (λ s. string_bytes s ≡ refusal_line fault.now) }
     ensures refusal { OnOk result (fault.now ≢ ReadFault.Memory) }

@@ -1,5 +1,5 @@
 -- What lies ahead of a reader of lines, from what it holds.
-use Rattle.std.proofs.Common.{◌≡◌, ℕ, suc, ◌+◌, ◌<◌, ◌≤◌, ◌↔◌, List, [], ◌∷◌, ◌++◌, length, take, Contains, Option, Some, None, Result, Ok, Err, IfOk, IfSome, inl, inr, refl, ap, sym, subst, ◌∙◌, arith, append-nil, length-append}
+use Rattle.std.proofs.Common.{◌≡◌, ℕ, suc, ◌+◌, ◌<◌, ◌≤◌, ◌↔◌, ◌⊎◌, Bool, true, false, List, [], ◌∷◌, ◌++◌, length, take, Contains, Option, Some, None, Result, Ok, Err, IfOk, IfSome, MatchResult, inl, inr, refl, ap, sym, subst, ◌∙◌, arith, append-nil, length-append}
 use Rattle.std.specs.Option.{option_map}
 use Rattle.std.specs.Io.KnownBytes.{prepend_known, IsAtEnd}
 use Rattle.std.specs.Io.BufRead.{strip_last, first_line, drop_through}
@@ -83,3 +83,22 @@ room_ahead E result old new held (Some ys) before ahead kept behind_is counts =
     let rest = ap length (sym (behind_is ys refl)) in
     subst (λ b. IfSome b (λ bytes. within new + length bytes ≡ within old + length (behind result bytes))) ahead
     (omega (arith, len, limit, below, most, rest, ap length kept, length-append held ys, length-append (behind result held) ys))
+
+-- a line feed that is held lies ahead
+pub feed_ahead : (E : Type 0) (result : Result Input E) (held : List ℕ) (left : Option (List ℕ)) (end : ℕ) → IsFirstFeed held end → IfSome (prepend_known held left) (λ bytes. Contains bytes 10 ⊎ (behind result bytes ≡ bytes))
+feed_ahead E result held None end h = tt
+feed_ahead E result held (Some ys) end h = let a = first-append held ys end h in inl (end, a.inside, get_or_default (held ++ ys) end 10 0 a.inside ∙ a.here)
+
+-- a refusal uses nothing up
+pub none_used : (E : Type 0) (fail : E) (ahead : Option (List ℕ)) → IfSome ahead (λ bytes. Contains bytes 10 ⊎ (behind {E = E} (Err fail) bytes ≡ bytes))
+none_used E fail None = tt
+none_used E fail (Some bytes) = inr refl
+
+pub last_fed : (E : Type 0) (result : Result Input E) (ended : Bool) (ahead : Option (List ℕ)) → MatchResult result (λ _. ended ≡ true) (λ _. ended ≡ false) → ended ≡ false → IfSome ahead (λ bytes. Contains bytes 10 ⊎ (behind result bytes ≡ bytes))
+last_fed E (Ok input) ended ahead is not = absurd (cc (is, not))
+last_fed E (Err fail) ended ahead is not = none_used E fail ahead
+
+-- where nothing is held, and nothing is left, the end is next
+pub end_next : (held : List ℕ) (left : Option (List ℕ)) (most : ℕ) → held ≡ [] → IsAtEnd left → IfSome (prepend_known held left) (λ bytes. IsNext most bytes End)
+end_next held None most none ended = tt
+end_next held (Some ys) most none ended = ap (λ xs. xs ++ ys) none ∙ ended

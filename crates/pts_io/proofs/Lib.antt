@@ -1,3 +1,4 @@
 pub mod Ahead
 pub mod Feeds
 pub mod Known
+pub mod Turns

@@ -4,3 +4,4 @@ pub mod Calls
 pub mod Fakes
 pub mod Files
 pub mod Lines
+pub mod Ends

@@ -1,5 +1,5 @@
 -- Lines of the input, one after another.
-use Rattle.std.specs.Prelude.{◌≡◌, ◌≢◌, ℕ, ◌+◌, ◌-◌, ◌<◌, ◌≤◌, ◌⊎◌, List, [], length, take, slice_index, Contains, string_bytes, Result, Ok, Err}
+use Rattle.std.specs.Prelude.{◌≡◌, ◌≢◌, ℕ, ◌+◌, ◌-◌, ◌<◌, ◌≤◌, ◌⊎◌, Bool, List, [], length, take, slice_index, Contains, string_bytes, Result, Ok, Err}
 use Rattle.std.specs.Str.{IsUtf8}
 use Rattle.std.specs.Io.BufRead.{first_line, drop_through}
 use Rattle.pts_io.specs.declared.lines.Input.{Input}
@@ -13,6 +13,8 @@ pub record Reading : Type 0 where
   pub taken : ℕ
   -- how many it may take
   pub limit : ℕ
+  -- whether the source came to its end, and nothing is held
+  pub ended : Bool
 
 -- how many of the bytes that are held, or left in the source, are within the limit
 abbrev pub within : Reading → ℕ
@@ -40,7 +42,7 @@ IsNext most bytes Bad = HasLine most bytes × IsAnswer (first_line bytes) Bad
 IsNext most bytes TooMuch = (most < length bytes) × ¬ Contains (take most bytes) 10
 IsNext most bytes End = bytes ≡ []
 
--- the bytes behind the answer
+-- the bytes after the answer
 abbrev pub behind : {E : Type 0} → Result Input E → List ℕ → List ℕ
 behind (Ok (Text text)) bytes = drop_through 10 bytes
 behind (Ok Bad) bytes = drop_through 10 bytes

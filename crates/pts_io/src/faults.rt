@@ -16,7 +16,7 @@ pub enum WholeFault {
     /// The source had more bytes than the limit.
     #[error("the source has too many bytes")]
     TooMuch,
-    /// Want of memory.
+    /// Memory ran out.
     #[error("out of memory")]
     Memory,
 }
@@ -27,7 +27,7 @@ pub enum ReadFail {
     /// The source or the library failed.
     #[error("the outside failed")]
     Failed,
-    /// Want of memory.
+    /// Memory ran out.
     #[error("out of memory")]
     Memory,
 }

@@ -3,6 +3,7 @@
 //! Stands on no other crate of this repository; `thiserror` derives its error types.
 #![tactic(auto)]
 
+mod ended;
 mod faults;
 mod folder;
 mod libraries;
@@ -15,6 +16,7 @@ mod sources;
 mod standard;
 mod whole;
 
+pub use ended::Ended;
 pub use faults::{Fail, ReadFail, WholeFault};
 pub use folder::FolderLibrary;
 pub use libraries::{FILE_LIMIT, Found, Library};

@@ -1,4 +1,4 @@
-ghost use Rattle.std.specs.Prelude.{◌≡◌, ◌≢◌, ◌+◌, ◌-◌, ◌<◌, ◌≤◌, ◌⊎◌, ◌↔◌, [], length, take, drop, vec_len, Contains, Ok, Err, IfOk, IfSome, IfErr, IsTrue, MatchOption};
+ghost use Rattle.std.specs.Prelude.{◌≡◌, ◌≢◌, ◌+◌, ◌-◌, ◌<◌, ◌≤◌, ◌⊎◌, ◌↔◌, true, false, [], length, take, drop, vec_len, Contains, Ok, Err, IfOk, IfSome, IfErr, IsTrue, MatchOption, MatchResult};
 ghost use Rattle.std.specs.Option.{option_map};
 ghost use Rattle.std.specs.Io.KnownBytes.{prepend_known, IsAtEnd};
 ghost use Rattle.std.specs.Io.BufRead.{first_line, strip_last};
@@ -32,13 +32,14 @@ pub enum Input {
     End,
 }
 
-/// Lines of a source, which takes no more than one byte behind a limit.
+/// Lines of a source, which takes no more than one byte after a limit, and nothing after the source's end.
 #[derive(Debug, Drop)]
 pub struct LineReader {
     bytes: Vec<u8>,
     start: usize,
     taken: u64,
     is_over: bool,
+    is_ended: bool,
     limit: u64,
     alloc: Global,
 }
@@ -49,9 +50,9 @@ impl Model for LineReader {
 
     ghost Value = { Reading };
 
-    ghost view = { λ s. record { held = drop s.start s.bytes.items; taken = s.taken + (if s.is_over then 1 else 0); limit = s.limit } };
+    ghost view = { λ s. record { held = drop s.start s.bytes.items; taken = s.taken + (if s.is_over then 1 else 0); limit = s.limit; ended = s.is_ended } };
 
-    ghost invariant = { λ s. (s.start ≤ vec_len s.bytes) × (s.taken ≤ s.limit) × (s.is_over ≡ true → s.taken ≡ s.limit) };
+    ghost invariant = { λ s. (s.start ≤ vec_len s.bytes) × (s.taken ≤ s.limit) × (s.is_over ≡ true → s.taken ≡ s.limit) × (s.is_ended ≡ true → s.start ≡ vec_len s.bytes) };
 }
 
 impl LineReader {
@@ -60,12 +61,14 @@ impl LineReader {
         ensures held { IfOk result (λ reader. reader.held ≡ []) }
         ensures taken { IfOk result (λ reader. reader.taken ≡ 0) }
         ensures limit { IfOk result (λ reader. reader.limit ≡ limit) }
+        ensures ended { IfOk result (λ reader. reader.ended ≡ false) }
     {
         Ok(LineReader {
             bytes: Vec::with_capacity(alloc, PIECE)?,
             start: 0,
             taken: 0,
             is_over: false,
+            is_ended: false,
             limit,
             alloc,
         })
@@ -73,8 +76,9 @@ impl LineReader {
 
     /// The next line.
     ///
-    /// Takes from the source only while no line feed is held, and asks for a byte behind the limit
-    /// only where all before it were taken. After `TooMuch` it answers that again.
+    /// Takes from the source only while no line feed is held, and asks for a byte after the limit
+    /// only where all before it were taken. After `TooMuch` it answers that again. After the source's
+    /// end it answers `End`, and asks the source no more.
     ///
     /// # Errors
     ///
@@ -95,13 +99,22 @@ impl LineReader {
 
         ensures ahead { prepend_known self.new.held (S.state source.new).left
             ≡ option_map (behind result) (prepend_known self.old.held (S.state source.old).left) }
-        ensures answer { self.old.taken ≤ self.old.limit → IfOk result (λ input.
+        ensures answer { self.old.taken ≤ self.old.limit → (self.old.ended ≡ true → IsAtEnd (S.state source.old).left) → IfOk result (λ input.
             IfSome (prepend_known self.old.held (S.state source.old).left) (λ bytes. IsNext (within self.old) bytes input)) }
         ensures room { IfSome (prepend_known self.old.held (S.state source.old).left)
             (λ bytes. within self.new + length bytes ≡ within self.old + length (behind result bytes)) }
+
+        ensures done { self.old.ended ≡ true → self.old.taken ≤ self.old.limit → result ≡ Ok Input.End }
+        ensures stays { self.old.ended ≡ true → source.new ≡ source.old }
+        ensures ended { (self.old.ended ≡ true → IsAtEnd (S.state source.old).left) → self.new.ended ≡ true → IsAtEnd (S.state source.new).left }
+        ensures fed { self.new.ended ≡ false → IfSome (prepend_known self.old.held (S.state source.old).left)
+            (λ bytes. Contains bytes 10 ⊎ (behind result bytes ≡ bytes)) }
     {
         if self.is_over {
             return Ok(Input::TooMuch);
+        }
+        if self.is_ended {
+            return Ok(Input::End);
         }
         match self.line_end(0) {
             Some(end) => self.hand_out(end),
@@ -113,6 +126,7 @@ impl LineReader {
     fn read_line<S: Source>(&mut self, source: &mut S) -> Result<Input, ReadFail>
         requires open { self.old.taken ≤ self.old.limit }
         requires no_line { NoFeed self.old.held }
+        requires not_ended { self.old.ended ≡ false }
         ensures never_falls { (S.state source.old).faults ≤ (S.state source.new).faults }
         ensures failed { result ≡ Err ReadFail.Failed → Rose (S.state source.old).faults (S.state source.new).faults }
         ensures faults { result ≢ Err ReadFail.Failed → (S.state source.new).faults ≡ (S.state source.old).faults }
@@ -130,6 +144,10 @@ impl LineReader {
             IfSome (prepend_known self.old.held (S.state source.old).left) (λ bytes. IsNext (within self.old) bytes input)) }
         ensures room { IfSome (prepend_known self.old.held (S.state source.old).left)
             (λ bytes. within self.new + length bytes ≡ within self.old + length (behind result bytes)) }
+
+        ensures ended { self.new.ended ≡ true → IsAtEnd (S.state source.new).left }
+        ensures fed { self.new.ended ≡ false → IfSome (prepend_known self.old.held (S.state source.old).left)
+            (λ bytes. Contains bytes 10 ⊎ (behind result bytes ≡ bytes)) }
     {
         'turns: loop {
             let seen = self.held().len();
@@ -152,14 +170,14 @@ impl LineReader {
         &self.bytes[self.start..]
     }
 
-    // A byte behind the limit was taken.
+    // A byte after the limit was taken.
     fn is_over(&self) -> bool
         ensures { IsTrue result ↔ (self.now.limit < self.now.taken) }
     {
         self.is_over
     }
 
-    // How many bytes are asked for: none behind the limit, but for one where all within were taken.
+    // How many bytes are asked for: none after the limit, but for one where all within were taken.
     fn wanted(&self) -> usize
         requires { self.now.taken ≤ self.now.limit }
         ensures some { 0 < result }
@@ -185,12 +203,14 @@ impl LineReader {
 
     // Answers the line before the first line feed, which stands at `end`.
     fn hand_out(&mut self, end: usize) -> Result<Input, ReadFail>
-        requires { IsFirstFeed self.old.held end }
+        requires feed { IsFirstFeed self.old.held end }
+        requires not_ended { self.old.ended ≡ false }
         ensures answer { IfOk result (IsAnswer (first_line self.old.held)) }
         ensures refused { IfErr result (λ fail. fail ≡ ReadFail.Memory) }
         ensures held { self.new.held ≡ behind result self.old.held }
         ensures taken { self.new.taken ≡ self.old.taken }
         ensures limit { self.new.limit ≡ self.old.limit }
+        ensures ended { self.new.ended ≡ false }
     {
         let line = without_return(&self.held()[..end]);
         let Ok(answer) = answer_to(self.alloc, line) else {
@@ -202,28 +222,33 @@ impl LineReader {
 
     // Answers what is held as the last line, if it isn't empty.
     fn hand_out_last(&mut self) -> Result<Input, ReadFail>
-        requires { NoFeed self.old.held }
-        ensures end { (result ≡ Ok Input.End) ↔ (self.old.held ≡ []) }
+        requires no_line { NoFeed self.old.held }
+        requires not_ended { self.old.ended ≡ false }
+        ensures empty { (result ≡ Ok Input.End) ↔ (self.old.held ≡ []) }
         ensures answer { IfOk result (λ input. 0 < length self.old.held → IsAnswer (first_line self.old.held) input) }
         ensures refused { IfErr result (λ fail. fail ≡ ReadFail.Memory) }
         ensures held { self.new.held ≡ behind result self.old.held }
         ensures taken { self.new.taken ≡ self.old.taken }
         ensures limit { self.new.limit ≡ self.old.limit }
+        ensures ended { MatchResult result (λ _. self.new.ended ≡ true) (λ _. self.new.ended ≡ false) }
     {
         let line = self.held();
         if line.is_empty() {
+            self.is_ended = true;
             return Ok(Input::End);
         }
         let Ok(answer) = answer_to(self.alloc, line) else {
             return Err(ReadFail::Memory);
         };
         self.start = self.bytes.len();
+        self.is_ended = true;
         Ok(answer)
     }
 
     // Takes once more, and holds what came.
     fn fill<S: Source>(&mut self, source: &mut S) -> Result<usize, ReadFail>
         requires open { self.old.taken ≤ self.old.limit }
+        requires not_ended { self.old.ended ≡ false }
         ensures never_falls { (S.state source.old).faults ≤ (S.state source.new).faults }
         ensures failed { result ≡ Err ReadFail.Failed → Rose (S.state source.old).faults (S.state source.new).faults }
         ensures faults { result ≢ Err ReadFail.Failed → (S.state source.new).faults ≡ (S.state source.old).faults }
@@ -231,6 +256,7 @@ impl LineReader {
         ensures given { (S.state source.new).given ≡ raised (S.state source.old).given (moved result) }
         ensures taken { self.new.taken ≡ self.old.taken + moved result }
         ensures limit { self.new.limit ≡ self.old.limit }
+        ensures ended { self.new.ended ≡ false }
         ensures most { self.new.taken ≤ self.new.limit + 1 }
         ensures one { self.old.taken < self.new.limit → self.new.taken ≤ self.new.limit }
 

@@ -10,7 +10,7 @@ pub trait Sink {
     // What it shows: the bytes that were written, where they are shown, and its count of faults.
     ghost state: { Self → SinkState };
 
-    /// Writes the first bytes of the piece behind what was written, and answers how many. The answer
+    /// Writes the first bytes of the piece after what was written, and answers how many. The answer
     /// 0 for a piece that isn't empty is a fault too. No call changes whether the bytes are shown.
     ///
     /// # Errors

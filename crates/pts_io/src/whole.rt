@@ -16,7 +16,7 @@ pub(crate) const PIECE: usize = 65536;
 /// # Errors
 ///
 /// `Failed` only where the source's count of faults rose, `TooMuch` exactly where byte `limit` + 1
-/// was taken, and `Memory`. No byte behind that one is taken.
+/// was taken, and `Memory`. No byte after that one is taken.
 pub fn read_whole<S: Source>(
     alloc: Global,
     source: &mut S,

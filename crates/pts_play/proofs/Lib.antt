@@ -10,3 +10,5 @@ pub mod ByTurns
 pub mod Served
 pub mod Through
 pub mod Printing
+pub mod OneInput
+pub mod PlayedByTurns

@@ -1,5 +1,5 @@
 -- A session that runs its lines, turn after turn.
-use Rattle.std.proofs.Common.{ℕ, ◌<◌, ◌≡◌, true, false, sym, subst, List, [], ◌∷◌, ◌++◌, drop}
+use Rattle.std.proofs.Common.{ℕ, ◌<◌, ◌≡◌, true, false, sym, subst, List, [], ◌∷◌, ◌++◌, drop, None}
 use Rattle.pts_play.specs.Machines.{Outcome, done, asks, Call, Position, ready, Runs, begins, line_is_done, line_asks, is_answered}
 use Rattle.pts_play.specs.Ports.{History, PortStep, no_call, one_call}
 use Rattle.pts_play.proofs.Merges.{makes_seen}
@@ -30,6 +30,10 @@ module _ {P Q A C : Type 0} (Local : P → List ℕ → Outcome P P Q → Type 0
       let r1 = subst (λ o. Runs Local Resume s.player s.lines.items w.calls t.replies.items (position_with t.player (drop t.next t.lines.items) o)) none w.runs in
       let r2 = subst (λ ls. Runs Local Resume s.player s.lines.items w.calls t.replies.items (ready t.player ls)) settled.1 r1 in
       record { calls = w.calls; runs = r2; makes = w.makes }
+
+  -- It waits for nothing, and may go on.
+  pub may_go_on : (n : ℕ) (core core' : C) (t u : Seat P Q) → Turn Local Resume Step free awaits fits n core t false core' u → Rests free awaits t → fits t.player core → (u.asked ≡ None) × free u.player × fits u.player core'
+  may_go_on n core core' t u (passed_over none) rests fit = let settled = subst (λ o. Settled free awaits t o) none rests in (none, settled.0, fit)
 
 -- What a session did through a pass, said of the histories that the pass has seen.
 pub worked_seen : {P Q A Pass Core Entry : Type 0} (Local : P → List ℕ → Outcome P P Q → Type 0) (Resume : P → A → List (List ℕ) → P → Type 0) (Step : Core → ℕ → Q → A → Core → Type 0) (at : History Entry → Core) (Calls : Pass → ℕ → Q → A → Pass → Type 0) (owner_of : Pass → ℕ) (seen_by : Pass → History Entry) → ((p q : Pass) (n : ℕ) (r : Q) (a : A) → Calls p n r a q → (owner_of q ≡ owner_of p) × PortStep Step at (seen_by p) (owner_of p) r a (seen_by q)) → (n : ℕ) (p q : Pass) (s t : Seat P Q) → RanThrough Local Resume Calls n p s q t → RanThrough Local Resume (PortStep Step at) (owner_of p) (seen_by p) s (seen_by q) t

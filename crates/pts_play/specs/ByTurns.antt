@@ -1,8 +1,10 @@
 -- A round said step by step, one turn after another.
-use Rattle.std.specs.Prelude.{ℕ, ◌≢◌, List, [], ◌∷◌, ◌++◌, All}
+use Rattle.std.specs.Prelude.{ℕ, suc, ◌≡◌, ◌≢◌, List, [], ◌∷◌, ◌++◌, map, length, All}
 use Rattle.pts_play.specs.Machines.{Outcome, done, asks}
 use Rattle.pts_names.specs.Lists.{In, AllDiffer}
+use Rattle.pts_play.specs.Rounds.{lines_of, reply_line, order_line, done_line}
 use Rattle.pts_play.specs.Ports.{Job, Finish, job, finish, numbers_of, RoundOf}
+use Rattle.pts_play.specs.Play.{Playing, PlaysRound}
 
 -- How far a session goes by itself, with its replies so far: to its end, or to a request with the lines after the one that asks.
 pub data Stop (State Waiting Request : Type 0) : Type 0 where
@@ -55,3 +57,32 @@ module _ {State Waiting Request Answer : Type 0} (Local : State → List ℕ →
 
     abbrev pub TurnsAreRounds : Type 0
     TurnsAreRounds = (C D : Core) (jobs : List (Job State)) (order : List ℕ) (finishes : List (Finish State)) → AllDiffer (numbers_of jobs) → RoundByTurns C jobs order D finishes → RoundOf Local Resume Step C jobs order D finishes
+
+-- What the sessions, whose numbers are n, n + 1 and so on, have to do in a round of these lines.
+abbrev pub jobs_from : {State : Type 0} → ℕ → (lines : List (ℕ × List ℕ)) → List State → List (Job State)
+jobs_from n lines [] = []
+jobs_from n lines (s ∷ ss) = job n s (lines_of n lines) ∷ jobs_from (suc n) lines ss
+
+-- The replies of such sessions, each after its number.
+abbrev pub replies_from : {State : Type 0} → ℕ → List (Finish State) → List (List ℕ)
+replies_from n [] = []
+replies_from n (f ∷ fs) = map (reply_line n) f.replies ++ replies_from (suc n) fs
+
+module _ {Core State Waiting Request Answer : Type 0} (Step : Core → ℕ → Request → Answer → Core → Type 0) (Local : State → List ℕ → Outcome State Waiting Request → Type 0) (Resume : Waiting → Answer → List (List ℕ) → State → Type 0) (chosen : (numbers order : List ℕ) → Type 0) where
+  -- A round of a play, said step by step: all sessions take turns, in an order that is chosen for the numbers after `go`.
+  pub record PlaysByTurns (p : Playing Core State) (numbers : List ℕ) (out : List (List ℕ)) (q : Playing Core State) : Type 0 where
+    pub order : List ℕ
+    pub finishes : List (Finish State)
+    pub allowed : chosen numbers order
+    pub turns : RoundByTurns Local Resume Step p.core (jobs_from 1 p.lines p.sessions) order q.core finishes
+    pub ends : q.sessions ≡ map (λ f. f.state) finishes
+    pub printed : out ≡ replies_from 1 finishes ++ order_line order ∷ done_line (suc (length p.orders)) ∷ []
+    pub emptied : q.lines ≡ []
+    pub recorded : q.orders ≡ p.orders ++ order ∷ []
+
+  -- This is the round by its events.
+  abbrev pub PlayedRoundsAreTurns : Type 0
+  PlayedRoundsAreTurns = (p q : Playing Core State) (numbers : List ℕ) (out : List (List ℕ)) → PlaysRound Step Local Resume chosen p numbers out q → PlaysByTurns p numbers out q
+
+  abbrev pub TurnsArePlayedRounds : Type 0
+  TurnsArePlayedRounds = (p q : Playing Core State) (numbers : List ℕ) (out : List (List ℕ)) → PlaysByTurns p numbers out q → PlaysRound Step Local Resume chosen p numbers out q

@@ -12,7 +12,10 @@ mod seat;
 mod text;
 
 pub use alone::run_through;
-pub use laws::{Rounds, rounds_are_merged, rounds_are_turns, served_inputs_are_played};
+pub use laws::{
+    Rounds, lines_say_one_thing, played_rounds_are_turns, rounds_are_merged, rounds_are_turns,
+    served_inputs_are_played,
+};
 pub use lines::add_line;
 pub use machines::{Local, Player, Table};
 pub use round::play_round;

@@ -58,13 +58,13 @@ pub trait Player {
     ghost resumes: { Self.World → Self → Self.Answer → List (List ℕ) → Self → Type 0 };
 
     // The session waits for nothing.
-    ghost free: { Self → Type 0 };
+    ghost free: { Self.World → Self → Type 0 };
 
     // The session waits for the answer to this request.
-    ghost awaits: { Self → Self.Request → Type 0 };
+    ghost awaits: { Self.World → Self → Self.Request → Type 0 };
 
     // The session may be given this answer.
-    ghost takes: { Self → Self.Answer → Type 0 };
+    ghost takes: { Self.World → Self → Self.Answer → Type 0 };
 
     // The session may play with this core in this world.
     ghost fits: { Self.World → Self → Self.Core → Type 0 };
@@ -80,7 +80,7 @@ pub trait Player {
         world: &Self::World,
         text: &str,
     ) -> Result<Local<Self::Request>, AllocError>
-        requires { free self.old }
+        requires { free world.now self.old }
         ensures { IfOk result (λ l. local world.now self.old text.now (outcome_of l self.new)) };
 
     /// Takes the answer for which the session waits, and ends the line with its replies.
@@ -94,22 +94,22 @@ pub trait Player {
         world: &Self::World,
         answer: Self::Answer,
     ) -> Result<Vec<Text>, AllocError>
-        requires { takes self.old answer }
+        requires { takes world.now self.old answer }
         ensures { IfOk result (λ v. resumes world.now self.old answer v.items self.new) };
 
-    ghost stays_free: { (w : Self.World) (s t : Self) (text : List ℕ) (out : List (List ℕ)) → free s → local w s text (done out t) → free t };
+    ghost stays_free: { (w : Self.World) (s t : Self) (text : List ℕ) (out : List (List ℕ)) → free w s → local w s text (done out t) → free w t };
 
-    ghost waits: { (w : Self.World) (s t : Self) (text : List ℕ) (q : Self.Request) → free s → local w s text (asks q t) → awaits t q };
+    ghost waits: { (w : Self.World) (s t : Self) (text : List ℕ) (q : Self.Request) → free w s → local w s text (asks q t) → awaits w t q };
 
     ghost done_fits: { (w : Self.World) (s t : Self) (text : List ℕ) (out : List (List ℕ)) (C : Self.Core) → fits w s C → local w s text (done out t) → fits w t C };
 
     ghost asks_fits: { (w : Self.World) (s t : Self) (text : List ℕ) (q : Self.Request) (C : Self.Core) → fits w s C → local w s text (asks q t) → fits w t C };
 
-    ghost may_ask: { (w : Self.World) (s : Self) (q : Self.Request) (C : Self.Core) → fits w s C → awaits s q → Self.Core.may C q };
+    ghost may_ask: { (w : Self.World) (s : Self) (q : Self.Request) (C : Self.Core) → fits w s C → awaits w s q → Self.Core.may C q };
 
-    ghost may_answer: { (w : Self.World) (s : Self) (n : ℕ) (q : Self.Request) (a : Self.Answer) (C D : Self.Core) → fits w s C → awaits s q → Self.Core.steps C n q a D → takes s a };
+    ghost may_answer: { (w : Self.World) (s : Self) (n : ℕ) (q : Self.Request) (a : Self.Answer) (C D : Self.Core) → fits w s C → awaits w s q → Self.Core.steps C n q a D → takes w s a };
 
-    ghost resumed: { (w : Self.World) (s t : Self) (n : ℕ) (q : Self.Request) (a : Self.Answer) (out : List (List ℕ)) (C D : Self.Core) → fits w s C → awaits s q → Self.Core.steps C n q a D → resumes w s a out t → free t × fits w t D };
+    ghost resumed: { (w : Self.World) (s t : Self) (n : ℕ) (q : Self.Request) (a : Self.Answer) (out : List (List ℕ)) (C D : Self.Core) → fits w s C → awaits w s q → Self.Core.steps C n q a D → resumes w s a out t → free w t × fits w t D };
 
     ghost others: { (w : Self.World) (s : Self) (n : ℕ) (q : Self.Request) (a : Self.Answer) (C D : Self.Core) → fits w s C → Self.Core.steps C n q a D → fits w s D };
 }

@@ -24,11 +24,11 @@ pub fn play_round<P: Player>(
     requires few { length seats.old ≤ 64 }
     requires numbers { All (λ n. (1 ≤ n) × (n ≤ length seats.old)) numbers.now }
     requires clear { AllClear seats.old }
-    requires free { AllByRecursion P.free (players seats.old) }
+    requires free { AllByRecursion (P.free world.now) (players seats.old) }
     requires fits { AllFit (P.fits world.now) core.old seats.old }
     ensures played { IfOk result (λ order. (lines : List (ℕ × List ℕ)) → HaveLines 1 lines seats.old → PlayedRound (P.local world.now) (P.resumes world.now) P.Core.steps lines numbers.now core.old seats.old core.new seats.new order.items) }
     ensures idle { OnOk result (NoneWaits seats.new) }
-    ensures free { OnOk result (AllByRecursion P.free (players seats.new)) }
+    ensures free { OnOk result (AllByRecursion (P.free world.now) (players seats.new)) }
     ensures fits { OnOk result (AllFit (P.fits world.now) core.new seats.new) }
     ensures keeps { P.Core.keeps core.old core.new }
 {
@@ -49,8 +49,8 @@ fn start_all<P: Player>(
     world: &P::World,
     seats: &mut [Seat<P, P::Request>],
 ) -> Result<(), AllocError>
-    requires fresh { AllFresh P.free seats.old }
-    ensures started { OnOk result (StartedAll (P.local world.now) (P.resumes world.now) P.free P.awaits (P.fits world.now) seats.old seats.new) }
+    requires fresh { AllFresh (P.free world.now) seats.old }
+    ensures started { OnOk result (StartedAll (P.local world.now) (P.resumes world.now) (P.free world.now) (P.awaits world.now) (P.fits world.now) seats.old seats.new) }
 {
     if let Some((seat, rest)) = seats.split_first_mut() {
         run_on(alloc, world, seat)?;
@@ -70,9 +70,9 @@ fn turn_of<P: Player>(
 ) -> Result<(), AllocError>
     requires known { (1 ≤ number) × (number ≤ length seats.old) }
     requires few { length seats.old ≤ 64 }
-    requires rests { AllRest P.free P.awaits seats.old }
+    requires rests { AllRest (P.free world.now) (P.awaits world.now) seats.old }
     requires fits { AllFit (P.fits world.now) core.old seats.old }
-    ensures turned { OnOk result (Turned (P.local world.now) (P.resumes world.now) P.Core.steps P.free P.awaits (P.fits world.now) core.old seats.old order.old.items core.new seats.new order.new.items) }
+    ensures turned { OnOk result (Turned (P.local world.now) (P.resumes world.now) P.Core.steps (P.free world.now) (P.awaits world.now) (P.fits world.now) core.old seats.old order.old.items core.new seats.new order.new.items) }
     ensures promises { OnOk result ((numbers left : List ℕ) → Promises numbers (OrderFrom (number ∷ left)) seats.old order.old.items → Promises numbers (OrderFrom left) seats.new order.new.items) }
     ensures keeps { P.Core.keeps core.old core.new }
 {
@@ -93,9 +93,9 @@ fn turns_at<P: Player>(
 ) -> Result<(), AllocError>
     requires known { index < length seats.old }
     requires few { length seats.old ≤ 64 }
-    requires rests { AllRest P.free P.awaits seats.old }
+    requires rests { AllRest (P.free world.now) (P.awaits world.now) seats.old }
     requires fits { AllFit (P.fits world.now) core.old seats.old }
-    ensures turned { OnOk result (Turned (P.local world.now) (P.resumes world.now) P.Core.steps P.free P.awaits (P.fits world.now) core.old seats.old order.old.items core.new seats.new order.new.items) }
+    ensures turned { OnOk result (Turned (P.local world.now) (P.resumes world.now) P.Core.steps (P.free world.now) (P.awaits world.now) (P.fits world.now) core.old seats.old order.old.items core.new seats.new order.new.items) }
     ensures promises { OnOk result ((numbers : List ℕ) → Promises numbers (RisesFrom (index + 1)) seats.old order.old.items → Promises numbers (RisesFrom (index + 2)) seats.new order.new.items) }
     ensures ended { OnOk result (is_waiting_at seats.new (index + 1) ≡ false) }
     ensures keeps { P.Core.keeps core.old core.new }
@@ -116,9 +116,9 @@ fn turn_at<P: Player>(
 ) -> Result<bool, AllocError>
     requires known { index < length seats.old }
     requires few { length seats.old ≤ 64 }
-    requires rests { AllRest P.free P.awaits seats.old }
+    requires rests { AllRest (P.free world.now) (P.awaits world.now) seats.old }
     requires fits { AllFit (P.fits world.now) core.old seats.old }
-    ensures turn { IfOk result (λ taken. TurnAt (P.local world.now) (P.resumes world.now) P.Core.steps P.free P.awaits (P.fits world.now) index core.old seats.old taken core.new seats.new) }
+    ensures turn { IfOk result (λ taken. TurnAt (P.local world.now) (P.resumes world.now) P.Core.steps (P.free world.now) (P.awaits world.now) (P.fits world.now) index core.old seats.old taken core.new seats.new) }
     ensures keeps { P.Core.keeps core.old core.new }
 {
     take_turn(alloc, world, core, &mut seats[index], index as u32 + 1)

@@ -46,9 +46,9 @@ pub(crate) fn run_on<P: Player>(
     seat: &mut Seat<P, P::Request>,
 ) -> Result<(), AllocError>
     requires idle { seat.old.asked ≡ None }
-    requires free { P.free seat.old.player }
+    requires free { P.free world.now seat.old.player }
     ensures runs_on { OnOk result (RunsOn (P.local world.now) (P.resumes world.now) seat.old seat.new) }
-    ensures rests { OnOk result (Rests P.free P.awaits seat.new) }
+    ensures rests { OnOk result (Rests (P.free world.now) (P.awaits world.now) seat.new) }
     ensures fits { OnOk result ((C : P.Core) → P.fits world.now seat.old.player C → P.fits world.now seat.new.player C) }
     ensures rank { OnOk result (rank seat.new ≤ rank seat.old) }
 {
@@ -65,10 +65,10 @@ fn run_one<P: Player>(
     seat: &mut Seat<P, P::Request>,
 ) -> Result<(), AllocError>
     requires idle { seat.old.asked ≡ None }
-    requires free { P.free seat.old.player }
+    requires free { P.free world.now seat.old.player }
     requires some { seat.old.next < length seat.old.lines.items }
     ensures runs_on { OnOk result (RunsOn (P.local world.now) (P.resumes world.now) seat.old seat.new) }
-    ensures unsettled { OnOk result (Unsettled P.free P.awaits seat.new) }
+    ensures unsettled { OnOk result (Unsettled (P.free world.now) (P.awaits world.now) seat.new) }
     ensures fits { OnOk result ((C : P.Core) → P.fits world.now seat.old.player C → P.fits world.now seat.new.player C) }
     ensures lines { OnOk result (seat.new.lines.items ≡ seat.old.lines.items) }
     ensures next { OnOk result (seat.new.next ≡ seat.old.next + 1) }
@@ -115,9 +115,9 @@ pub(crate) fn take_turn<P: Player>(
     seat: &mut Seat<P, P::Request>,
     number: u32,
 ) -> Result<bool, AllocError>
-    requires rests { Rests P.free P.awaits seat.old }
+    requires rests { Rests (P.free world.now) (P.awaits world.now) seat.old }
     requires fits { P.fits world.now seat.old.player core.old }
-    ensures turn { IfOk result (λ taken. Turn (P.local world.now) (P.resumes world.now) P.Core.steps P.free P.awaits (P.fits world.now) number core.old seat.old taken core.new seat.new) }
+    ensures turn { IfOk result (λ taken. Turn (P.local world.now) (P.resumes world.now) P.Core.steps (P.free world.now) (P.awaits world.now) (P.fits world.now) number core.old seat.old taken core.new seat.new) }
     ensures keeps { P.Core.keeps core.old core.new }
 {
     if seat.asked.is_none() {
@@ -139,10 +139,10 @@ fn hear<P: Player>(
     answer: P::Answer,
 ) -> Result<(), AllocError>
     requires idle { seat.old.asked ≡ None }
-    requires takes { P.takes seat.old.player answer }
-    requires free { (t : P) (out : List (List ℕ)) → P.resumes world.now seat.old.player answer out t → P.free t }
+    requires takes { P.takes world.now seat.old.player answer }
+    requires free { (t : P) (out : List (List ℕ)) → P.resumes world.now seat.old.player answer out t → P.free world.now t }
     ensures hears { OnOk result (Hears (P.local world.now) (P.resumes world.now) seat.old answer seat.new) }
-    ensures rests { OnOk result (Rests P.free P.awaits seat.new) }
+    ensures rests { OnOk result (Rests (P.free world.now) (P.awaits world.now) seat.new) }
     ensures resumed { OnOk result ((t : P) × (out : List (List ℕ)) × P.resumes world.now seat.old.player answer out t × ((C : P.Core) → P.fits world.now t C → P.fits world.now seat.new.player C)) }
     ensures rank { OnOk result (rank seat.new ≤ rank seat.old) }
 {
@@ -158,7 +158,7 @@ fn hear_only<P: Player>(
     answer: P::Answer,
 ) -> Result<(), AllocError>
     requires idle { seat.old.asked ≡ None }
-    requires takes { P.takes seat.old.player answer }
+    requires takes { P.takes world.now seat.old.player answer }
     ensures idle { seat.new.asked ≡ None }
     ensures lines { seat.new.lines.items ≡ seat.old.lines.items }
     ensures next { seat.new.next ≡ seat.old.next }

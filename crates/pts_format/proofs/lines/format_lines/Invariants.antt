@@ -1,5 +1,5 @@
-use Rattle.std.proofs.Common.{◌≡◌, ℕ, List, ◌≤◌, IfSome}
-use Rattle.std.specs.Io.KnownBytes.{prepend_known, append_known}
+use Rattle.std.proofs.Common.{◌≡◌, true, ℕ, List, ◌≤◌, IfSome}
+use Rattle.std.specs.Io.KnownBytes.{prepend_known, append_known, IsAtEnd}
 use Rattle.pts_io.specs.Counts.{raised}
 use Rattle.pts_format.proofs.Progress.{Stands}
 use Rattle.pts_format.proofs.lines.format_lines.Given as goal
@@ -8,6 +8,7 @@ abbrev pub invariant-loop-before : goal.invariant-loop-before
 invariant-loop-before g l = record {
   limit : l.reader.limit ≡ l.limit;
   inside : l.reader.taken ≤ l.limit;
+  ended : l.reader.ended ≡ true → IsAtEnd (g.S.Source.state l.source).left;
   reads : (g.S.Source.state l.source).faults ≡ (g.S.Source.state l.initial.source).faults;
   writes : (g.K.Sink.state l.sink).faults ≡ (g.K.Sink.state l.initial.sink).faults;
   given : (g.S.Source.state l.source).given ≡ raised (g.S.Source.state l.initial.source).given l.reader.taken;

@@ -7,16 +7,16 @@ use Rattle.pts_play.proofs.Closing.{drop_past, started_long, started_rest, start
 use Rattle.pts_play.proofs.round.play_round.Goals as goal
 
 pub start_all-requires : goal.start_all-requires
-start_all-requires g c = record { fresh = all_fresh g.P.Player.free c.args.seats.now c.requires.clear c.requires.free }
+start_all-requires g c = record { fresh = all_fresh (g.P.Player.free c.args.world.now) c.args.seats.now c.requires.clear c.requires.free }
 
 pub loop-number-init : goal.loop-number-init
 loop-number-init g c =
     let s = c.in_ok-start_all.ensures.started in
     record {
-      playing = playing_none (g.P.Player.local c.args.world.now) (g.P.Player.resumes c.args.world.now) g.P.Core.Table.steps g.P.Player.free g.P.Player.awaits (g.P.Player.fits c.args.world.now) c.args.core.now c.args.seats.now c.start_all.new.seats c.new-order.result.items c.new-order.ensures.items (all_fresh g.P.Player.free c.args.seats.now c.requires.clear c.requires.free) s;
-      long = started_long (g.P.Player.local c.args.world.now) (g.P.Player.resumes c.args.world.now) g.P.Core.Table.steps g.P.Player.free g.P.Player.awaits (g.P.Player.fits c.args.world.now) c.args.seats.now c.start_all.new.seats s;
-      rest = started_rest (g.P.Player.local c.args.world.now) (g.P.Player.resumes c.args.world.now) g.P.Core.Table.steps g.P.Player.free g.P.Player.awaits (g.P.Player.fits c.args.world.now) c.args.seats.now c.start_all.new.seats s;
-      fit = started_fit (g.P.Player.local c.args.world.now) (g.P.Player.resumes c.args.world.now) g.P.Core.Table.steps g.P.Player.free g.P.Player.awaits (g.P.Player.fits c.args.world.now) c.args.core.now c.args.seats.now c.start_all.new.seats s c.requires.fits;
+      playing = playing_none (g.P.Player.local c.args.world.now) (g.P.Player.resumes c.args.world.now) g.P.Core.Table.steps (g.P.Player.free c.args.world.now) (g.P.Player.awaits c.args.world.now) (g.P.Player.fits c.args.world.now) c.args.core.now c.args.seats.now c.start_all.new.seats c.new-order.result.items c.new-order.ensures.items (all_fresh (g.P.Player.free c.args.world.now) c.args.seats.now c.requires.clear c.requires.free) s;
+      long = started_long (g.P.Player.local c.args.world.now) (g.P.Player.resumes c.args.world.now) g.P.Core.Table.steps (g.P.Player.free c.args.world.now) (g.P.Player.awaits c.args.world.now) (g.P.Player.fits c.args.world.now) c.args.seats.now c.start_all.new.seats s;
+      rest = started_rest (g.P.Player.local c.args.world.now) (g.P.Player.resumes c.args.world.now) g.P.Core.Table.steps (g.P.Player.free c.args.world.now) (g.P.Player.awaits c.args.world.now) (g.P.Player.fits c.args.world.now) c.args.seats.now c.start_all.new.seats s;
+      fit = started_fit (g.P.Player.local c.args.world.now) (g.P.Player.resumes c.args.world.now) g.P.Core.Table.steps (g.P.Player.free c.args.world.now) (g.P.Player.awaits c.args.world.now) (g.P.Player.fits c.args.world.now) c.args.core.now c.args.seats.now c.start_all.new.seats s c.requires.fits;
       promises = λ rest all made_from. subst (λ o. OrderFrom c.args.numbers.now (o ++ rest)) (sym c.new-order.ensures.items) made_from;
       keeps = g.met.P.Core.Table.keeps_itself c.args.core.now;
     }
@@ -66,9 +66,9 @@ returns g c =
     let i = c.loop-index.invariant in
     let ended = all_ended c.loop-index.seats (λ k small. i.ended k (let b = c.loop-index-test.false in let l = i.long in omega (arith, b, l, small))) in
     record {
-      played = λ lines have. played (g.P.Player.local c.args.world.now) (g.P.Player.resumes c.args.world.now) g.P.Core.Table.steps g.P.Player.free g.P.Player.awaits (g.P.Player.fits c.args.world.now) lines c.args.numbers.now _ c.args.core.now c.loop-index.core c.args.seats.now c.loop-index.seats c.loop-index.order.items have i.long ended i.rest i.promises i.playing;
+      played = λ lines have. played (g.P.Player.local c.args.world.now) (g.P.Player.resumes c.args.world.now) g.P.Core.Table.steps (g.P.Player.free c.args.world.now) (g.P.Player.awaits c.args.world.now) (g.P.Player.fits c.args.world.now) lines c.args.numbers.now _ c.args.core.now c.loop-index.core c.args.seats.now c.loop-index.seats c.loop-index.order.items have i.long ended i.rest i.promises i.playing;
       idle = ended;
-      free = all_free (g.P.Player.local c.args.world.now) (g.P.Player.resumes c.args.world.now) g.P.Core.Table.steps g.P.Player.free g.P.Player.awaits (g.P.Player.fits c.args.world.now) c.loop-index.seats ended i.rest;
+      free = all_free (g.P.Player.local c.args.world.now) (g.P.Player.resumes c.args.world.now) g.P.Core.Table.steps (g.P.Player.free c.args.world.now) (g.P.Player.awaits c.args.world.now) (g.P.Player.fits c.args.world.now) c.loop-index.seats ended i.rest;
       fits = i.fit;
       keeps = i.keeps;
     }

@@ -4,7 +4,7 @@ use Rattle.pts_play.proofs.seat.run_on.Given as goal
 
 abbrev pub invariant-loop-seat : goal.invariant-loop-seat
 invariant-loop-seat g l = record {
-  settled : Unsettled g.P.Player.free g.P.Player.awaits l.seat;
+  settled : Unsettled (g.P.Player.free l.world) (g.P.Player.awaits l.world) l.seat;
   same : l.seat.lines.items ≡ l.fn.seat.lines.items;
   inside : l.fn.seat.next ≤ l.seat.next;
   rank : rank l.seat ≤ rank l.fn.seat;

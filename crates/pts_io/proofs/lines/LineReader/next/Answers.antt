@@ -1,7 +1,7 @@
 use Rattle.std.proofs.Common.{rules, inl, inr, refl, ◌≤◌, ap, ◌∙◌, arith}
 use Rattle.std.specs.Io.KnownBytes.{prepend_known}
 use Rattle.pts_io.specs.declared.faults.ReadFail.{ReadFail}
-use Rattle.pts_io.proofs.Ahead.{none_contained, behind-append, behind-ahead, answer_ahead, room_ahead}
+use Rattle.pts_io.proofs.Ahead.{none_contained, behind-append, behind-ahead, answer_ahead, room_ahead, feed_ahead}
 use Rattle.pts_io.proofs.lines.LineReader.next.Goals as goal
 
 pub returns-in-Some-clause-ahead : goal.returns-in-Some-clause-ahead
@@ -9,7 +9,7 @@ returns-in-Some-clause-ahead g c =
     ap (λ held. prepend_known held (g.S.Source.state c.args.source.now).left) c.hand_out.ensures.held ∙ behind-ahead ReadFail _ _ _ c.in-Some.end c.in-Some.ensures
 
 pub returns-in-Some-clause-answer : goal.returns-in-Some-clause-answer
-returns-in-Some-clause-answer g c inside = answer_ahead ReadFail _ c.args.self.now.held _ c.in-Some.end _ c.in-Some.ensures (omega (arith, inside)) c.hand_out.ensures.answer
+returns-in-Some-clause-answer g c inside _ = answer_ahead ReadFail _ c.args.self.now.held _ c.in-Some.end _ c.in-Some.ensures (omega (arith, inside)) c.hand_out.ensures.answer
 
 pub returns-in-None-clause-waits : goal.returns-in-None-clause-waits
 returns-in-None-clause-waits g c (inl holds) = absurd (none_contained _ c.in-None.ensures holds)
@@ -25,3 +25,6 @@ returns-in-Some-clause-room g c =
     room_ahead ReadFail _ c.args.self.now c.hand_out.new.self c.args.self.now.held _ _ refl out.held
     (λ ys _. behind-append ReadFail _ _ ys c.in-Some.end c.in-Some.ensures)
     (omega (arith, out.taken), out.limit, inside, omega (arith, inside, out.taken, out.limit))
+
+pub returns-in-Some-clause-fed : goal.returns-in-Some-clause-fed
+returns-in-Some-clause-fed g c _ = feed_ahead ReadFail c.hand_out.result c.args.self.now.held (g.S.Source.state c.args.source.now).left c.in-Some.end c.in-Some.ensures

@@ -1,4 +1,4 @@
-use Rattle.std.proofs.Common.{◌≡◌, ◌+◌, ◌-◌, ◌≤◌, length}
+use Rattle.std.proofs.Common.{◌≡◌, ◌+◌, ◌-◌, ◌≤◌, length, false}
 use Rattle.std.specs.Io.KnownBytes.{prepend_known}
 use Rattle.pts_io.specs.Counts.{raised}
 use Rattle.pts_io.specs.Lines.{NoFeed}
@@ -14,6 +14,7 @@ invariant-turns g l =
     × ((g.S.Source.state l.source).given ≡ raised (g.S.Source.state l.initial.source).given (l.self.taken - l.initial.self.taken))
     × (prepend_known l.self.held (g.S.Source.state l.source).left ≡ prepend_known l.initial.self.held (g.S.Source.state l.initial.source).left)
     × (length l.self.held + l.initial.self.taken ≡ length l.initial.self.held + l.self.taken)
+    × (l.self.ended ≡ false)
 
 abbrev pub decreases-turns : goal.decreases-turns
 decreases-turns g l = l.self.limit - l.self.taken

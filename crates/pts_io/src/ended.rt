@@ -1,4 +1,4 @@
-/// How the lines of a source came to their end.
+/// How the lines of a source came to their end, of which each is answered as soon as it is read.
 #[derive(Clone, Copy, Debug, PartialEq, Eq)]
 pub enum Ended {
     /// Each line was answered.
