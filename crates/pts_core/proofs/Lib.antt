@@ -1,0 +1,13 @@
+pub mod InnerNames
+pub mod Places
+pub mod Clashes
+pub mod Numbers
+pub mod Looking
+pub mod Legality
+pub mod Refusals
+pub mod Scanning
+pub mod Pushing
+pub mod Histories
+pub mod Fronts
+pub mod Entered
+pub mod Answering

@@ -1,0 +1,10 @@
+pub mod InnerNames
+pub mod Findings
+pub mod Replies
+pub mod Histories
+pub mod Cores
+pub mod Events
+pub mod Ports
+pub mod Laws
+pub mod Copies
+pub mod Obstacles
