@@ -7,22 +7,22 @@ use Rattle.pts_reduce_cost.specs.Costs.{Globals}
 use Rattle.pts_reduce_cost.specs.Laws.{WithinBudget, AboveBudget}
 use Rattle.pts_infer_cost.specs.Typing.{Stop, comes, stops}
 use Rattle.pts_module_file.specs.declared.fault.FileWhy.{FileWhy}
-use Rattle.pts_declare.specs.Statements.{Statement}
-use Rattle.pts_declare.specs.Declaring.{Reason, DeclareOutcome, Declares}
-use Rattle.pts_declare.proofs.Once.{declares_once}
+use Rattle.pts_statement.specs.Statements.{Statement}
+use Rattle.pts_statement.specs.Declaring.{Reason, StatementOutcome, Declares}
+use Rattle.pts_statement.proofs.Once.{declares_once}
 use Rattle.pts_batch.specs.Loading.{Loaded, stopped, Loads, no_statement, statement_enters, statement_stops, statement_is_too_dear}
 use Rattle.pts_batch.specs.Batches.{BatchAnswer, BatchAnswers, answer_of, BatchOutcome, bad_file, not_built, loaded, Batches, file_is_bad, line_is_not_built, file_is_loaded, statements_of}
 
-within_once : (S : Specification) (M : Name) (G : Globals) (d : Statement) (b j k : ℕ) (o p : DeclareOutcome) → WithinBudget (Declares S M G d) b o j → WithinBudget (Declares S M G d) b p k → (o ≡ p) × (j ≡ k)
+within_once : (S : Specification) (M : Name) (G : Globals) (d : Statement) (b j k : ℕ) (o p : StatementOutcome) → WithinBudget (Declares S M G d) b o j → WithinBudget (Declares S M G d) b p k → (o ≡ p) × (j ≡ k)
 within_once S M G d b j k o p (m, c, e) (n, q, f) = let r = declares_once S M G d o p m n c q in (r.0, omega (arith, r.1, e, f))
 
-never_both : (S : Specification) (M : Name) (G : Globals) (d : Statement) (b k : ℕ) (o : DeclareOutcome) → WithinBudget (Declares S M G d) b o k → AboveBudget (Declares S M G d) b → ⊥
+never_both : (S : Specification) (M : Name) (G : Globals) (d : Statement) (b k : ℕ) (o : StatementOutcome) → WithinBudget (Declares S M G d) b o k → AboveBudget (Declares S M G d) b → ⊥
 never_both S M G d b k o (n, c, e) a = let h : b < n = a o n c in omega (arith, h, e)
 
-same_entry : (o p : DeclareOutcome) (e f : Global Name) → o ≡ comes e → p ≡ comes f → o ≡ p → e ≡ f
+same_entry : (o p : StatementOutcome) (e f : Global Name) → o ≡ comes e → p ≡ comes f → o ≡ p → e ≡ f
 same_entry o p e f i j h = cc
 
-same_stop : (o p : DeclareOutcome) (e f : Stop Reason) → o ≡ stops e → p ≡ stops f → o ≡ p → e ≡ f
+same_stop : (o p : StatementOutcome) (e f : Stop Reason) → o ≡ stops e → p ≡ stops f → o ≡ p → e ≡ f
 same_stop o p e f i j h = cc
 
 loads_once : (S : Specification) (M : Name) (G : Globals) (ds : List (ℕ × Statement)) (b j k : ℕ) (o p : Loaded) → Loads S M G ds b o j → Loads S M G ds b p k → (o ≡ p) × (j ≡ k)

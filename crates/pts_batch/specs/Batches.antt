@@ -10,9 +10,10 @@ use Rattle.pts_module_file.specs.declared.fault.FileWhy.{FileWhy}
 use Rattle.pts_module_file.specs.File.{File, module_of}
 use Rattle.pts_printed.specs.Locals.{printed}
 use Rattle.pts_reduce_cost.specs.Costs.{Globals}
-use Rattle.pts_declare.specs.Statements.{Statement, assumes, defines}
+use Rattle.pts_statement.specs.Statements.{Statement, assumes, defines}
 use Rattle.pts_module_file.specs.FaultText.{file_why_text}
-use Rattle.pts_declare.specs.Words.{stop_text, spent_text}
+use Rattle.pts_flaw_text.specs.InferText.{spent_text}
+use Rattle.pts_statement.specs.Words.{stop_text}
 use Rattle.pts_batch.specs.Loading.{Loaded, entered, stopped, spent, Loads}
 
 -- The statements of a file, each with the number of its line.
@@ -41,7 +42,7 @@ pub data BatchOutcome : Type 0 where
   loaded : Loaded → BatchOutcome
 
 -- Batches S M bytes b o k: the bytes as the file of the module M, over the empty front, come to o with b units before
--- and k behind.
+-- and k after.
 pub data Batches (S : Specification) (M : Name) (bytes : List ℕ) (b : ℕ) : BatchOutcome → ℕ → Type 0 where
   file_is_bad : {n : ℕ} {w : FileWhy} → module_of M bytes ≡ Err (n, w) → Batches S M bytes b (bad_file n w) b
   line_is_not_built : {f : File} {n : ℕ} → module_of M bytes ≡ Ok f → unbuilt_line f ≡ Some n → Batches S M bytes b (not_built n) b

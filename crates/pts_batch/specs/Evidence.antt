@@ -2,7 +2,7 @@
 use Rattle.std.specs.Prelude.{◌≡◌, ℕ, List, [], ◌∷◌, true, option_map}
 use Rattle.pts_grammar.specs.Seen.{syntax_of}
 use Rattle.pts_module_file.specs.declared.file.ModuleLine.{ModuleLine}
-use Rattle.pts_declare.specs.Statements.{Statement, assumes, defines, name_of}
+use Rattle.pts_statement.specs.Statements.{Statement, assumes, defines, name_of}
 use Rattle.pts_names.specs.Name.{is_short}
 
 -- The statement that a line of a file is.

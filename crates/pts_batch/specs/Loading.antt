@@ -6,10 +6,10 @@ use Rattle.pts_ctx.specs.Front.{Global}
 use Rattle.pts_reduce_cost.specs.Costs.{Globals}
 use Rattle.pts_reduce_cost.specs.Laws.{WithinBudget, AboveBudget}
 use Rattle.pts_infer_cost.specs.Typing.{Stop, comes, stops}
-use Rattle.pts_declare.specs.Statements.{Statement}
-use Rattle.pts_declare.specs.Declaring.{Reason, Declares}
+use Rattle.pts_statement.specs.Statements.{Statement}
+use Rattle.pts_statement.specs.Declaring.{Reason, Declares}
 
--- All statements enter, and that is the front behind them; or one is the first that is stopped, or for which the budget
+-- All statements enter, and that is the front after them; or one is the first that is stopped, or for which the budget
 -- is too small. It is named by the number of its line.
 pub data Loaded : Type 0 where
   entered : Globals → Loaded
@@ -17,7 +17,7 @@ pub data Loaded : Type 0 where
   spent : (line : ℕ) → Loaded
 
 -- Loads S M G ds b o k: in the system S, the statements ds of the module M, each with the number of its line, come to o
--- over the front G; b units are there before them, and k are left behind them. Each statement is declared over the front
+-- over the front G; b units are there before them, and k are left after them. Each statement is declared over the front
 -- with the entries of those before it.
 pub data Loads (S : Specification) (M : Name) : Globals → List (ℕ × Statement) → ℕ → Loaded → ℕ → Type 0 where
   no_statement : {G : Globals} {b : ℕ} → Loads S M G [] b (entered G) b

@@ -1,11 +1,12 @@
 // Batches of one module.
 
-ghost use Rattle.std.specs.Prelude.{◌≡◌, true, ◌+◌, ◌++◌, ◌∷◌, [], Ok, None, IfOk, codes};
+ghost use Rattle.std.specs.Prelude.{◌≡◌, true, ◌+◌, ◌++◌, ◌∷◌, [], Ok, None, IfOk, OnOk, codes};
 ghost use Rattle.std.specs.Fmt.{decimal};
 ghost use Rattle.pts_check.specs.Entered.{declared_entries, MayFollow};
 ghost use Rattle.pts_module_file.specs.File.{AllShort, module_file_of, module_of};
 ghost use Rattle.pts_names.specs.Name.{is_short};
-ghost use Rattle.pts_declare.specs.Answered.{fault_text};
+ghost use Rattle.pts_statement.specs.Refusals.{IsRefusal};
+ghost use Rattle.pts_statement.specs.Words.{fault_text};
 ghost use Rattle.pts_batch.specs.Batches.{BatchAnswers, refusal, bad_line, at_line, unbuilt_line, with_entries};
 ghost use Rattle.pts_batch.specs.Calls.{AnswersBadFile, AnswersFault};
 ghost use Rattle.pts_batch.specs.Shown.{answer_seen, Evident};
@@ -14,14 +15,14 @@ use crate::lines::entry_lines;
 use crate::loading::{LoadFault, Loading, load};
 use crate::world::{Batch, World};
 use pts_ctx::{Context, ROOM, System};
-use pts_declare::{DeclareFault, fault_text};
 use pts_module_file::{FileFault, FileWhy, ModuleFile, ModuleLine, read_module};
 use pts_names::{List, Name, Text};
 use pts_rules::Meter;
+use pts_statement::{StatementFault, fault_text};
 use std::alloc::{AllocError, Global};
 
 /// Checks the file of the module with this name on a budget of so many units, over the empty context. Its declarations
-/// enter behind the label of the module, and each is printed with its type; or one line says why the module is refused,
+/// enter after the label of the module, and each is printed with its type; or one line says why the module is refused,
 /// and nothing enters.
 ///
 /// Refusals come in this order: `BadFile` with the first line that breaks the format; `NotBuilt` with the first line that
@@ -199,9 +200,10 @@ fn refused_line(
     system: &System,
     name: &Name,
     line: usize,
-    fault: &DeclareFault,
+    fault: &StatementFault,
     units: u64,
 ) -> Result<Batch, AllocError>
+    ensures refusal { OnOk result (IsRefusal fault.now) }
     ensures answer { IfOk result (λ r. answer_seen r ≡ refusal name.now (at_line line (fault_text system.now.sorts fault.now))) }
     ensures units { IfOk result (λ r. r.units ≡ units) }
     ensures evidence { IfOk result (λ r. (r.declarations ≡ []) × (r.context.entries ≡ [])) }

@@ -9,20 +9,20 @@ ghost use Rattle.pts_reduce.specs.Given.{Later};
 ghost use Rattle.pts_reduce_cost.specs.Laws.{WithinBudget};
 ghost use Rattle.pts_infer_cost.specs.Typing.{comes};
 ghost use Rattle.pts_check.specs.Entered.{MayEnter, MayFollow, declared, declared_entries};
-ghost use Rattle.pts_declare.specs.Statements.{name_of};
 ghost use Rattle.pts_names.specs.Name.{is_short};
-ghost use Rattle.pts_declare.specs.Declaring.{Declares};
-ghost use Rattle.pts_declare.specs.Answered.{NotDeclared};
+ghost use Rattle.pts_statement.specs.Statements.{name_of};
+ghost use Rattle.pts_statement.specs.Declaring.{Declares};
+ghost use Rattle.pts_statement.specs.Refusals.{RefusesStatement};
 ghost use Rattle.pts_batch.specs.Evidence.{statement_of, numbered, AllDeclarable};
 ghost use Rattle.pts_batch.specs.Loading.{Loads, entered};
-ghost use Rattle.pts_batch.specs.Calls.{Stops, IsRefusedAt};
+ghost use Rattle.pts_batch.specs.Calls.{Stops};
 
 use pts_ctx::{Context, Entry, System};
-use pts_declare::{DeclareFault, assume, define};
 use pts_module_file::ModuleLine;
 use pts_names::Name;
 use pts_record::Declaration;
 use pts_rules::Meter;
+use pts_statement::{StatementFault, assume, define};
 use std::alloc::{AllocError, Global};
 
 /// The declarations that entered, and the front that they make.
@@ -32,10 +32,10 @@ pub struct Loading {
     pub declarations: Vec<Declaration>,
 }
 
-/// Why the statement on a line does not enter.
+/// Why the statements of a module do not enter: the one on a line is refused; or there is no memory.
 #[derive(Drop)]
 pub enum LoadFault {
-    Refused(usize, DeclareFault),
+    Refused(usize, StatementFault),
     Memory,
 }
 
@@ -55,7 +55,7 @@ impl From<AllocError> for LoadFault {
 ///
 /// # Errors
 ///
-/// The first line whose statement is refused, with its refusal. `Memory`.
+/// `Refused` with the first line whose statement is refused, and its fault, which may be that there is no memory. `Memory`.
 pub fn load(
     alloc: Global,
     system: &System,
@@ -77,20 +77,10 @@ pub fn load(
     while let Some(line) = rest.next() {
         match loading.add(alloc, system, label, &line.1, meter) {
             Ok(()) => drop(line),
-            Err(fault) => return Err(refused_at(line.0, fault)),
+            Err(fault) => return Err(LoadFault::Refused(line.0, fault)),
         }
     }
     Ok(loading)
-}
-
-// The refusal of the statement on a line.
-fn refused_at(line: usize, fault: DeclareFault) -> LoadFault
-    ensures { IsRefusedAt line fault result }
-{
-    match fault {
-        DeclareFault::Memory => LoadFault::Memory,
-        other => LoadFault::Refused(line, other),
-    }
 }
 
 // The empty front with the label, and room for so many declarations.
@@ -118,23 +108,19 @@ impl Loading {
         label: &Name,
         line: &ModuleLine,
         meter: &mut Meter,
-    ) -> Result<(), DeclareFault>
+    ) -> Result<(), StatementFault>
         requires label { length label.now ≤ 63 }
         requires name { is_short (name_of (statement_of line.now)) ≡ true }
         requires room { 0 < self.old.context.spare_entries }
         ensures entered { OnOk result ((d : Declaration) × WithinBudget (Declares system.now label.now self.old.context.entries (statement_of line.now)) (left meter.old) (comes (declared d)) (left meter.new) × MayEnter system.now self.old.context.entries d × (self.new.context.entries ≡ self.old.context.entries ++ declared d ∷ []) × (self.new.declarations.items ≡ self.old.declarations.items ++ d ∷ [])) }
-        ensures refused { IfErr result (λ e. NotDeclared (Declares system.now label.now self.old.context.entries (statement_of line.now)) e (left meter.old) (left meter.new)) }
+        ensures refused { IfErr result (λ e. RefusesStatement system.now label.now self.old.context.entries (statement_of line.now) e (left meter.old) (left meter.new)) }
         ensures labels { self.new.context.labels ≡ self.old.context.labels }
         ensures spare { self.old.context.spare_entries ≤ self.new.context.spare_entries + 1 }
         ensures later { Later meter.old meter.new }
     {
-        match declare(alloc, system, &self.context, label, line, meter) {
-            Ok(declaration) => match self.enter(alloc, declaration) {
-                Ok(()) => Ok(()),
-                Err(_) => Err(DeclareFault::Memory),
-            },
-            Err(fault) => Err(fault),
-        }
+        let declaration = declare(alloc, system, &self.context, label, line, meter)?;
+        self.enter(alloc, declaration)?;
+        Ok(())
     }
 
     // Enters a declaration.
@@ -163,11 +149,11 @@ fn declare(
     label: &Name,
     line: &ModuleLine,
     meter: &mut Meter,
-) -> Result<Declaration, DeclareFault>
+) -> Result<Declaration, StatementFault>
     requires label { length label.now ≤ 63 }
     requires name { is_short (name_of (statement_of line.now)) ≡ true }
     ensures declared { IfOk result (λ d. WithinBudget (Declares system.now label.now front.now.entries (statement_of line.now)) (left meter.old) (comes (declared d)) (left meter.new)) }
-    ensures refused { IfErr result (λ e. NotDeclared (Declares system.now label.now front.now.entries (statement_of line.now)) e (left meter.old) (left meter.new)) }
+    ensures refused { IfErr result (λ e. RefusesStatement system.now label.now front.now.entries (statement_of line.now) e (left meter.old) (left meter.new)) }
     ensures evidence { IfOk result (λ d. MayEnter system.now front.now.entries d) }
     ensures later { Later meter.old meter.new }
 {

@@ -1,3 +1,2 @@
 pub mod Inferred
-pub mod Stating
 pub mod Once

@@ -1,16 +1,16 @@
--- A statement comes to one outcome at most, at one cost.
+-- What is stated comes to one outcome at most, at one cost.
 use Rattle.std.proofs.Common.{◌≡◌, ℕ, ◌+◌, [], refl, sym, ap, ◌∙◌, subst, Some, None}
 use mathlib.Core.Path.{ap₂}
-use Rattle.pts_names.specs.Name.{Name, joined}
+use Rattle.pts_names.specs.Name.{Name}
 use Rattle.pts_terms.specs.Tree.{Named}
 use Rattle.pts_ctx.specs.System.{Specification}
 use Rattle.pts_reduce_cost.specs.Costs.{Globals}
-use Rattle.pts_infer_cost.specs.Typing.{Fits, Flaw, FitFlaw, Stop, moved, judged, by_flaw, Outcome, comes, stops, inference_nesting}
+use Rattle.pts_infer_cost.specs.Typing.{Fits, Flaw, FitFlaw, Stop, moved, judged, Outcome, comes, stops, inference_nesting}
 use Rattle.pts_infer_cost.proofs.Exact.{inference_once, sorts_once, fit_once}
 use Rattle.pts_infer.specs.Answered.{OfTerm, term_too_large, term_inferred, OfType, type_too_large, type_sorted, OfFitted, body_too_large, wanted_too_large, body_stops, body_fitted}
 use Rattle.pts_infer.specs.declared.part.Part.TheVariants.{Whole, Ty}
-use Rattle.pts_declare.specs.Statements.{Statement, name_of, Stated, assumption, definition, typed_definition}
-use Rattle.pts_declare.specs.Declaring.{DeclareOutcome, unread, taken, flawed, turned, of_fit, entry, Checks, of_assumption, of_definition, of_typed_definition, Declares, unknown_word, taken_name, checked}
+use Rattle.pts_declare.specs.Stated.{Stated, assumption, definition, typed_definition}
+use Rattle.pts_declare.specs.Checking.{DeclareOutcome, flawed, turned, of_fit, entry, Checks, of_assumption, of_definition, of_typed_definition}
 
 module _ (S : Specification) (G : Globals) where
   term_once : (t : Named) (o p : Outcome Flaw Named) (m n : ℕ) → OfTerm S G t o m → OfTerm S G t p n → (o ≡ p) × (m ≡ n)
@@ -57,21 +57,10 @@ module _ (S : Specification) (G : Globals) where
       let q = fit_once S G inference_nesting [] U A o p n1 n2 g f in
       (q.0, ap₂ (λ a b. a + b) r.1 q.1)
 
-  checks_once : (x : Name) (s : Stated) (o p : DeclareOutcome) (m n : ℕ) → Checks S G x s o m → Checks S G x s p n → (o ≡ p) × (m ≡ n)
+  pub checks_once : (x : Name) (s : Stated) (o p : DeclareOutcome) (m n : ℕ) → Checks S G x s o m → Checks S G x s p n → (o ≡ p) × (m ≡ n)
   checks_once x (assumption A) o p m n (of_assumption u c e) (of_assumption v d f) =
       let r = type_once A u v m n c d in (e ∙ ap (turned (flawed Ty) (λ s. entry x None A)) r.0 ∙ sym f, r.1)
   checks_once x (definition t) o p m n (of_definition u c e) (of_definition v d f) =
       let r = term_once t u v m n c d in (e ∙ ap (turned (flawed Whole) (λ A. entry x (Some t) A)) r.0 ∙ sym f, r.1)
   checks_once x (typed_definition A t) o p m n (of_typed_definition u c e) (of_typed_definition v d f) =
       let r = fitted_once t A u v m n c d in (e ∙ ap (turned of_fit (λ q. entry x (Some t) A)) r.0 ∙ sym f, r.1)
-
-pub declares_once : (S : Specification) (M : Name) (G : Globals) (d : Statement) (o p : DeclareOutcome) (m n : ℕ) → Declares S M G d o m → Declares S M G d p n → (o ≡ p) × (m ≡ n)
-declares_once S M G d o p m n (unknown_word {e = e} q) (unknown_word {e = f} r) = let h : e ≡ f = cc in (ap (λ g. stops (by_flaw (unread g))) h, refl)
-declares_once S M G d o p m n (unknown_word q) (taken_name r k) = absurd (cc)
-declares_once S M G d o p m n (unknown_word q) (checked r k c) = absurd (cc)
-declares_once S M G d o p m n (taken_name q k) (unknown_word r) = absurd (cc)
-declares_once S M G d o p m n (taken_name {k = i} q k) (taken_name {k = j} r l) = let h : i ≡ j = cc in (ap (λ g. stops (by_flaw (taken (joined M (name_of d)) g))) h, refl)
-declares_once S M G d o p m n (taken_name q k) (checked r l c) = absurd (cc)
-declares_once S M G d o p m n (checked q k c) (unknown_word r) = absurd (cc)
-declares_once S M G d o p m n (checked q k c) (taken_name r l) = absurd (cc)
-declares_once S M G d o p m n (checked {s = s} q k c) (checked {s = t} r l e) = let h : s ≡ t = cc in checks_once S G (joined M (name_of d)) t o p m n (subst (λ u. Checks S G (joined M (name_of d)) u o m) h c) e

@@ -1,6 +1,4 @@
-pub mod Statements
-pub mod Declaring
-pub mod Answered
-pub mod Seen
-pub mod Words
+pub mod Stated
+pub mod Checking
+pub mod Refusals
 pub mod Laws

@@ -1,24 +1,12 @@
-// Why a statement is refused.
+// Why what is stated is refused.
 
 ghost use Rattle.std.specs.Prelude.{◌≡◌};
 
-use pts_infer::{Flaw, Part};
-use pts_names::Name;
-use pts_parser::ReadFault;
+use pts_infer::{InferFault, Part};
 
-/// Why a statement does not become a declaration.
+/// Why what is stated does not become a declaration.
 #[derive(Debug, Drop)]
 pub enum DeclareFault {
-    /// A name or a sort is unknown.
-    Read(ReadFault),
-    /// The name stands already, at that place of the front.
-    Taken(Name, usize),
-    /// The part has that flaw.
-    Flawed(Part, Flaw),
-    /// The cost is above what the meter had left.
-    Spent,
-    /// A term or the nesting of inferences or of tests is beyond the limits.
-    Deep,
-    /// There is no memory.
-    Memory,
+    /// The inference of this part has this fault.
+    Infer(Part, InferFault),
 }

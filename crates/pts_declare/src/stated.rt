@@ -1,9 +1,14 @@
+// What is stated of a name.
+
 use pts_terms::Term;
 
-/// What is stated, with its names and sorts looked up. A type stands before the body.
+/// What is stated of a name, in terms.
 #[derive(Debug, Drop)]
-pub(crate) enum Stated {
+pub enum Stated {
+    /// An assumption with this type.
     Assumption(Term),
+    /// A definition by this body, whose type is inferred.
     Definition(Term),
+    /// A definition with this type, by this body.
     Typed(Term, Term),
 }

@@ -1,12 +1,12 @@
 -- What a module file declares, with its names and sorts looked up.
-use Rattle.std.specs.Prelude.{ℕ, List, [], ◌&&◌, if◌then◌else◌, Option, Some, None, is_some, Result, Ok}
+use Rattle.std.specs.Prelude.{List, [], ◌&&◌, if◌then◌else◌, ℕ, Option, Some, None, is_some, Result, Ok}
 use Rattle.pts_names.specs.Name.{Name, joined, is_short}
-use Rattle.pts_terms.specs.Tree.{Named}
 use Rattle.pts_ctx.specs.Front.{Global}
 use Rattle.pts_ctx.specs.Seen.{place_of}
 use Rattle.pts_grammar.specs.Syntax.{Syntax}
 use Rattle.pts_parser.specs.declared.fault.ReadFault.{ReadFault}
 use Rattle.pts_parser.specs.Resolution.{resolved, and_then}
+use Rattle.pts_declare.specs.Stated.{Stated, assumption, definition, typed_definition}
 
 -- The constant for which a name stands in the module M: the declaration of the module that has this name, if it stands
 -- in the front.
@@ -22,13 +22,7 @@ abbrev pub name_of : Statement → Name
 name_of (assumes x A) = x
 name_of (defines x A t) = x
 
--- The same with terms.
-pub data Stated : Type 0 where
-  assumption : (type : Named) → Stated
-  definition : (body : Named) → Stated
-  typed_definition : (type body : Named) → Stated
-
--- The terms of a statement; or the first fault of a name or a sort from the left. A type stands before the body.
+-- What a statement states, in terms; or the first fault of a name or a sort from the left. A type stands before the body.
 module _ (sorts : List (List ℕ)) (scope : Name → Option Name) where
   abbrev pub stated : Statement → Result Stated ReadFault
   stated (assumes x A) = and_then (resolved sorts scope [] A) (λ B. Ok (assumption B))

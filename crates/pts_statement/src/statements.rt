@@ -1,4 +1,4 @@
-// Statements of a module.
+// Statements of modules.
 
 ghost use Rattle.std.specs.Prelude.{◌≡◌, ◌≤◌, length, true, IfOk, IfErr, Ok, None, option_map};
 ghost use Rattle.pts_names.specs.Name.{joined, is_short};
@@ -10,15 +10,15 @@ ghost use Rattle.pts_reduce_cost.specs.Laws.{WithinBudget};
 ghost use Rattle.pts_infer_cost.specs.Typing.{comes};
 ghost use Rattle.pts_check.specs.Entered.{declared, MayEnter};
 ghost use Rattle.pts_reduce.specs.Given.{Later};
-ghost use Rattle.pts_declare.specs.Statements.{Statement, assumes, defines, name_of, stated, visible};
-ghost use Rattle.pts_declare.specs.Declaring.{Declares};
-ghost use Rattle.pts_declare.specs.Answered.{NotDeclared, NotFree, stated_of, told_unread, AnswersStated};
+ghost use Rattle.pts_declare.specs.Stated.{stated_of};
+ghost use Rattle.pts_statement.specs.Statements.{Statement, assumes, defines, name_of, stated, visible};
+ghost use Rattle.pts_statement.specs.Declaring.{Declares};
+ghost use Rattle.pts_statement.specs.Refusals.{RefusesStatement, NotFree, AnswersStated};
 
-use crate::checking::check;
-use crate::fault::DeclareFault;
+use crate::fault::StatementFault;
 use crate::scope::FileScope;
-use crate::stated::Stated;
 use pts_ctx::{Context, System};
+use pts_declare::{Stated, check};
 use pts_names::{Name, NameFault};
 use pts_parser::{ReadFault, Tree, resolve};
 use pts_record::Declaration;
@@ -30,9 +30,9 @@ use std::alloc::Global;
 ///
 /// # Errors
 ///
-/// First `Read` with the first name or sort that is unknown, from the left; then `Taken`, where the name stands already.
-/// `Flawed`, `Deep` and `Spent` are those of inference at its cost, a term that is itself beyond the limits costing
-/// nothing; after `Spent` the meter stands at its limit.
+/// First `Read` with the first name or sort that is unknown, from the left; then `Taken`, where the name is taken already;
+/// then `Declare` with the fault of `pts_declare::check`, at its cost. After `Spent` the meter stands at its limit.
+/// `Memory`.
 #[tactic(auto, using(crate::proofs::Stating::unread_refused))]
 pub fn assume(
     alloc: Global,
@@ -42,18 +42,16 @@ pub fn assume(
     name: &Name,
     ty: &Tree,
     meter: &mut Meter,
-) -> Result<Declaration, DeclareFault>
+) -> Result<Declaration, StatementFault>
     requires label { length label.now ≤ 63 }
     requires name { is_short name.now ≡ true }
     ensures declared { IfOk result (λ d. WithinBudget (Declares system.now label.now front.now.entries (assumes name.now (syntax_of ty.now))) (left meter.old) (comes (declared d)) (left meter.new)) }
-    ensures refused { IfErr result (λ e. NotDeclared (Declares system.now label.now front.now.entries (assumes name.now (syntax_of ty.now))) e (left meter.old) (left meter.new)) }
+    ensures refused { IfErr result (λ e. RefusesStatement system.now label.now front.now.entries (assumes name.now (syntax_of ty.now)) e (left meter.old) (left meter.new)) }
     ensures evidence { IfOk result (λ d. MayEnter system.now front.now.entries d) }
     ensures later { Later meter.old meter.new }
 {
-    match assumed(alloc, system, front, label, name, ty) {
-        Ok(stated) => declare(alloc, system, front, label, name, stated, meter),
-        Err(fault) => Err(unread(fault)),
-    }
+    let stated = assumed(alloc, system, front, label, name, ty)?;
+    declare(alloc, system, front, label, name, stated, meter)
 }
 
 /// The definition of a name by that body, with that type if there is one, in the module with that label: names and sorts
@@ -62,7 +60,7 @@ pub fn assume(
 ///
 /// # Errors
 ///
-/// Those of `assume`. A flaw of a given type has the part `Ty`, every other one the part `Whole`.
+/// Those of `assume`. A type is looked up before the body.
 #[tactic(auto, using(crate::proofs::Stating::unread_refused))]
 pub fn define(
     alloc: Global,
@@ -73,18 +71,16 @@ pub fn define(
     ty: Option<&Tree>,
     body: &Tree,
     meter: &mut Meter,
-) -> Result<Declaration, DeclareFault>
+) -> Result<Declaration, StatementFault>
     requires label { length label.now ≤ 63 }
     requires name { is_short name.now ≡ true }
     ensures declared { IfOk result (λ d. WithinBudget (Declares system.now label.now front.now.entries (defines name.now (option_map (λ t. syntax_of t.now) ty.entry) (syntax_of body.now))) (left meter.old) (comes (declared d)) (left meter.new)) }
-    ensures refused { IfErr result (λ e. NotDeclared (Declares system.now label.now front.now.entries (defines name.now (option_map (λ t. syntax_of t.now) ty.entry) (syntax_of body.now))) e (left meter.old) (left meter.new)) }
+    ensures refused { IfErr result (λ e. RefusesStatement system.now label.now front.now.entries (defines name.now (option_map (λ t. syntax_of t.now) ty.entry) (syntax_of body.now)) e (left meter.old) (left meter.new)) }
     ensures evidence { IfOk result (λ d. MayEnter system.now front.now.entries d) }
     ensures later { Later meter.old meter.new }
 {
-    match defined(alloc, system, front, label, name, ty, body) {
-        Ok(stated) => declare(alloc, system, front, label, name, stated, meter),
-        Err(fault) => Err(unread(fault)),
-    }
+    let stated = defined(alloc, system, front, label, name, ty, body)?;
+    declare(alloc, system, front, label, name, stated, meter)
 }
 
 // What is stated by an assumption.
@@ -140,16 +136,16 @@ fn declare(
     name: &Name,
     given: Stated,
     meter: &mut Meter,
-) -> Result<Declaration, DeclareFault>
+) -> Result<Declaration, StatementFault>
     requires label { length label.now ≤ 63 }
     requires name { is_short name.now ≡ true }
     ensures declared { IfOk result (λ r. (d : Statement) → name_of d ≡ name.now → stated system.now.sorts (visible label.now front.now.entries) d ≡ Ok (stated_of given) → WithinBudget (Declares system.now label.now front.now.entries d) (left meter.old) (comes (declared r)) (left meter.new)) }
-    ensures refused { IfErr result (λ e. (d : Statement) → name_of d ≡ name.now → stated system.now.sorts (visible label.now front.now.entries) d ≡ Ok (stated_of given) → NotDeclared (Declares system.now label.now front.now.entries d) e (left meter.old) (left meter.new)) }
+    ensures refused { IfErr result (λ e. (d : Statement) → name_of d ≡ name.now → stated system.now.sorts (visible label.now front.now.entries) d ≡ Ok (stated_of given) → RefusesStatement system.now label.now front.now.entries d e (left meter.old) (left meter.new)) }
     ensures evidence { IfOk result (λ d. MayEnter system.now front.now.entries d) }
     ensures later { Later meter.old meter.new }
 {
     match free_name(alloc, front, label, name) {
-        Ok(name) => check(alloc, system, front, name, given, meter),
+        Ok(name) => Ok(check(alloc, system, front, name, given, meter)?),
         Err(fault) => Err(fault),
     }
 }
@@ -160,7 +156,7 @@ fn free_name(
     front: &Context,
     label: &Name,
     name: &Name,
-) -> Result<Name, DeclareFault>
+) -> Result<Name, StatementFault>
     requires label { length label.now ≤ 63 }
     requires name { is_short name.now ≡ true }
     ensures name { IfOk result (λ x. x ≡ joined label.now name.now) }
@@ -170,30 +166,11 @@ fn free_name(
 {
     let whole = match Name::join(alloc, label, name) {
         Ok(whole) => whole,
-        Err(NameFault::Memory) => return Err(DeclareFault::Memory),
+        Err(NameFault::Memory) => return Err(StatementFault::Memory),
         Err(_) => unreachable!(),
     };
     match front.place_of(&whole) {
-        Some(place) => Err(DeclareFault::Taken(whole, place)),
+        Some(place) => Err(StatementFault::Taken(whole, place)),
         None => Ok(whole),
-    }
-}
-
-// Why a statement can't be read.
-fn unread(fault: ReadFault) -> DeclareFault
-    ensures { result ≡ told_unread fault }
-{
-    match fault {
-        ReadFault::BadChar(place) => DeclareFault::Read(ReadFault::BadChar(place)),
-        ReadFault::LongName(place) => DeclareFault::Read(ReadFault::LongName(place)),
-        ReadFault::Expected(place, kind) => DeclareFault::Read(ReadFault::Expected(place, kind)),
-        ReadFault::TooDeep(place) => DeclareFault::Read(ReadFault::TooDeep(place)),
-        ReadFault::UnknownName(place, name) => {
-            DeclareFault::Read(ReadFault::UnknownName(place, name))
-        }
-        ReadFault::UnknownSort(place, sort) => {
-            DeclareFault::Read(ReadFault::UnknownSort(place, sort))
-        }
-        ReadFault::Memory => DeclareFault::Memory,
     }
 }

@@ -2,7 +2,7 @@
 
 ghost use Rattle.std.specs.Prelude.{◌≡◌, ◌≤◌, length};
 ghost use Rattle.pts_names.specs.Name.{is_short};
-ghost use Rattle.pts_declare.specs.Statements.{visible};
+ghost use Rattle.pts_statement.specs.Statements.{visible};
 
 use pts_ctx::Context;
 use pts_names::{Name, NameFault};
@@ -21,7 +21,7 @@ impl<'a> Model for FileScope<'a> {
     ghost use Rattle.std.specs.Prelude.{◌≤◌, length};
     ghost use Rattle.std.specs.Coded.{codes};
     ghost use Rattle.pts_terms.specs.Code.{coded_tree};
-    ghost use Rattle.pts_declare.specs.Seen.{SeenScope};
+    ghost use Rattle.pts_statement.specs.FileScope.{SeenScope};
 
     ghost Value = { SeenScope };
 
@@ -44,7 +44,7 @@ impl<'a> FileScope<'a> {
 }
 
 impl<'a> Scope for FileScope<'a> {
-    ghost use Rattle.pts_declare.specs.Statements.{visible};
+    ghost use Rattle.pts_statement.specs.Statements.{visible};
 
     ghost constants = { λ s. visible s.label s.entries };
 

@@ -1,4 +1,4 @@
--- A scope as contracts see it.
+-- The scope of a module file as contracts see it.
 use Rattle.std.specs.Prelude.{List}
 use Rattle.pts_names.specs.Name.{Name}
 use Rattle.pts_ctx.specs.Front.{Global}
