@@ -7,9 +7,10 @@ use Rattle.pts_ctx.specs.System.{Specification}
 use Rattle.pts_io.specs.Counts.{raised, Rose}
 use Rattle.pts_io.specs.States.{SourceState, SinkState, LibraryState}
 use Rattle.pts_io.proofs.Known.{append_known-nil, append_known-append}
-use Rattle.pts_format.specs.declared.ended.Ended.{Ended}
-use Rattle.pts_format.specs.declared.ended.Ended.TheVariants.{Whole, ReadFailed, TooMuch, WriteFailed, NoMemory}
-use Rattle.pts_format.specs.Ends.{IsCount, Shows, EndAnswers}
+use Rattle.pts_io.specs.declared.ended.Ended.{Ended}
+use Rattle.pts_io.specs.declared.ended.Ended.TheVariants.{Whole, ReadFailed, TooMuch, WriteFailed, NoMemory}
+use Rattle.pts_io.specs.Ends.{IsCount}
+use Rattle.pts_format.specs.Ends.{Shows, EndAnswers}
 use Rattle.yarrow.specs.declared.system.Unready.{Unready}
 use Rattle.yarrow.specs.declared.system.Unready.TheVariants as unready
 use Rattle.yarrow.specs.Runs.{Takes, TakesNothing, Prints, PrintsPart, PrintsLine, Writes}

@@ -19,12 +19,12 @@ use Rattle.yarrow.specs.Systems.{HasFile, IsUnread, unready_line, unready_status
 abbrev pub file_name : List ℕ → List ℕ
 file_name M = M ++ codes ".yar"
 
--- Lines, each with a line feed behind it.
+-- Lines, each with a line feed after it.
 abbrev pub text_of : List (List ℕ) → List ℕ
 text_of [] = []
 text_of (line ∷ lines) = (line ++ codes "\n") ++ text_of lines
 
--- Behind the lines of a module that is not refused stands the number of its entries.
+-- After the lines of a module that is not refused stands the number of its entries.
 abbrev pub done_line : ℕ → List ℕ
 done_line n = codes "done " ++ (decimal n ++ codes "\n")
 
@@ -34,7 +34,7 @@ answer_text a = text_of a.lines ++ (if a.refused then [] else done_line (length 
 abbrev pub answer_status : BatchAnswer → ℕ
 answer_status a = if a.refused then 1 else 0
 
--- The status and the text of an answer: that of a refusal is 1. For want of memory some of its first lines may be all.
+-- The status and the text of an answer: that of a refusal is 1. When memory runs out, some of its first lines may be all.
 pub data AnswerPrints (a : BatchAnswer) : (status : ℕ) → (text : List ℕ) → Type 0 where
   whole : AnswerPrints a (answer_status a) (answer_text a)
   no_memory : (n : ℕ) → AnswerPrints a 7 (text_of (take n a.lines))

@@ -4,7 +4,7 @@ use Rattle.pts_names.specs.Name.{same_name, is_plain}
 use Rattle.yarrow.specs.declared.command.Command.{Command as Asked}
 use Rattle.yarrow.specs.declared.command.Command.TheVariants as asked
 
--- A command, with what stands behind its word.
+-- A command, with what stands after its word.
 pub data Command : Type 0 where
   check : Command
   format : (specification : List ℕ) → Command
@@ -15,7 +15,7 @@ abbrev pub check_with : List (List ℕ) → Option Command
 check_with [] = Some check
 check_with _ = None
 
--- Behind `format` stands one word that isn't empty.
+-- After `format` stands one word that isn't empty.
 abbrev pub format_with : List (List ℕ) → Option Command
 format_with ((b ∷ bs) ∷ []) = Some (format (b ∷ bs))
 format_with _ = None
@@ -24,7 +24,7 @@ format_with _ = None
 abbrev pub is_module : List ℕ → Bool
 is_module word = is_plain word && nat_le (length word) 128
 
--- Behind `batch` stand one word that isn't empty and one that names a module.
+-- After `batch` stand one word that isn't empty and one that names a module.
 abbrev pub batch_with : List (List ℕ) → Option Command
 batch_with ((b ∷ bs) ∷ (name ∷ [])) = if is_module name then Some (batch (b ∷ bs) name) else None
 batch_with _ = None

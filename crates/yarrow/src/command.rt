@@ -5,7 +5,7 @@ ghost use Rattle.yarrow.specs.Commands.{command_of, command_seen, check_with, fo
 
 use pts_names::is_identifier;
 
-/// A command, with what stands behind its word.
+/// A command, with what stands after its word.
 #[derive(Clone, Copy, Debug)]
 pub(crate) enum Command<'a> {
     /// `check`

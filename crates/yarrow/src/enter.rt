@@ -16,7 +16,7 @@ use std::alloc::{AllocError, Global};
 /// Why a declaration does not enter a context.
 #[derive(Debug, Drop)]
 pub enum Refusal {
-    /// The name stands already, at that place.
+    /// The name is taken already, at that place.
     Clash(Name, usize),
     /// The context has 200,000 entries.
     Full,

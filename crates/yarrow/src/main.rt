@@ -6,6 +6,8 @@
 
 mod answer;
 mod batch;
+#[cfg(test)]
+mod batches;
 mod command;
 mod enter;
 mod format;
@@ -20,7 +22,7 @@ use pts_io::{FolderLibrary, StdSink, StdSource};
 use std::env;
 use std::process::ExitCode;
 
-/// Runs with the words behind the program's own name. Words that are not UTF-8 are of no form.
+/// Runs with the words after the program's own name. Words that are not UTF-8 are of no form.
 fn main(rt: HostRuntime) -> ExitCode {
     let alloc = rt.alloc();
     let words = match env::args(&rt) {

@@ -25,7 +25,7 @@ pub struct Finish {
     pub order: List<List<u32>>,
 }
 
-/// Runs the program with the words behind its own name. The forms are `check`, `format SPEC` and `batch SPEC MODULE`, where
+/// Runs the program with the words after its own name. The forms are `check`, `format SPEC` and `batch SPEC MODULE`, where
 /// SPEC is any word that isn't empty and MODULE is a plain name of at most 128 bytes; all other words print `usage`, with
 /// status 2, and take nothing from the source.
 pub fn run<S: Source, K: Sink, L: Library>(

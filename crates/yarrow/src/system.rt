@@ -18,7 +18,7 @@ pub(crate) enum Unready {
     NoFile,
     /// The file is longer than a file may be.
     TooLong,
-    /// The file is no specification of a system. The refusal is never want of memory.
+    /// The file is no specification of a system. The refusal is never that memory ran out.
     Refused(SpecFault),
     /// There was no memory for it.
     NoMemory,
@@ -85,7 +85,7 @@ pub(crate) fn unready_status(why: &Unready) -> u8
 }
 
 /// The line of a run that has no system: `library failed NAME`, `no file NAME`, `too long NAME`, or `refused system` with
-/// the refusal. After want of memory it is empty.
+/// the refusal. When memory runs out it is empty.
 pub(crate) fn unready_line(alloc: Global, name: &str, why: &Unready) -> Result<String, AllocError>
     ensures { IfOk result (λ s. string_bytes s ≡ unready_line name.now why.now) }
 {

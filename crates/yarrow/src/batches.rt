@@ -1,49 +1,27 @@
-use pts_batch::{Batch, World, batch};
-use pts_ctx::{SortName, System};
+use pts_batch::{Batch, World, batch, modules_have_one_answer};
+use pts_ctx::System;
 use pts_names::Name;
-use std::alloc::Global;
-
-fn spelled(alloc: Global, text: &str) -> Option<SortName> {
-    SortName::read(alloc, text).ok()
-}
-
-/// Two sorts.
-fn sorts(alloc: Global) -> Option<Vec<SortName>> {
-    let mut sorts = Vec::new(alloc);
-    sorts.push(spelled(alloc, "*")?).ok()?;
-    sorts.push(spelled(alloc, "#")?).ok()?;
-    Some(sorts)
-}
-
-fn axioms(alloc: Global) -> Option<Vec<(SortName, SortName)>> {
-    let left = spelled(alloc, "*")?;
-    let right = spelled(alloc, "#")?;
-    let mut axioms = Vec::new(alloc);
-    axioms.push((left, right)).ok()?;
-    Some(axioms)
-}
-
-fn rules(alloc: Global) -> Option<Vec<(SortName, SortName, SortName)>> {
-    let first = spelled(alloc, "*")?;
-    let second = spelled(alloc, "*")?;
-    let third = spelled(alloc, "*")?;
-    let mut rules = Vec::new(alloc);
-    rules.push((first, second, third)).ok()?;
-    Some(rules)
-}
+use pts_spec::read_system;
+use std::alloc::{AllocError, Global};
 
 /// The simply typed calculus.
-fn simple(alloc: Global) -> Option<World> {
-    let sorts = sorts(alloc)?;
-    let axioms = axioms(alloc)?;
-    let rules = rules(alloc)?;
-    let system = System::new(alloc, sorts, axioms, rules).ok()?;
-    Some(World { system })
+const SIMPLE: &[u8] = b"sorts = ['*', '#']\naxioms = [['*', '#']]\nrules = [['*', '*']]\n";
+
+fn simple(alloc: Global) -> Option<System> {
+    read_system(alloc, SIMPLE).ok()
+}
+
+/// A law is a function that does nothing.
+#[test]
+fn the_law_of_batches_can_be_called() {
+    modules_have_one_answer();
 }
 
 /// The batch of a module called `m`.
 fn batch_m(alloc: Global, text: &str, budget: u64) -> Option<Batch> {
-    let world = simple(alloc)?;
+    let world = World {
+        system: simple(alloc)?,
+    };
     let name = Name::read(alloc, "m").ok()?;
     batch(alloc, &world, &name, text.as_bytes(), budget).ok()
 }
@@ -129,5 +107,27 @@ fn a_refused_module_is_one_line(rt: HostRuntime) {
     ];
     for (text, budget, line) in refusals {
         assert!(rt; is_refused(&batch_m(rt.alloc(), text, budget), line));
+    }
+}
+
+// The text of a module of so many assumptions.
+fn assumptions(alloc: Global, count: u32) -> Result<String, AllocError> {
+    let mut text = String::from_str(alloc, "yarrow-module 1\nmodule m\n")?;
+    for number in 0..count {
+        let line = format!(in alloc; "assume a{number} : *\n")?;
+        text.push_str(line.as_str())?;
+    }
+    text.push_str("end\n")?;
+    Ok(text)
+}
+
+#[test]
+fn a_module_has_room_for_200000_declarations(rt: HostRuntime) {
+    match assumptions(rt.alloc(), 200_001) {
+        Ok(text) => {
+            let full = batch_m(rt.alloc(), text.as_str(), 1_000_000);
+            assert!(rt; is_refused(&full, "refused m ContextFull 0"));
+        }
+        Err(_) => assert!(rt; false),
     }
 }
