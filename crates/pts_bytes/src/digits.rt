@@ -15,7 +15,8 @@ pub fn is_digits(word: &[u8]) -> bool
     !word.is_empty()
 }
 
-/// The number that digits write, where it has no leading zero and is at most the limit.
+/// The number that digits write, where it has no leading zero and is at most the limit, which is at most 2^60. Callers
+/// ask `is_digits` first: of another byte no value is meant.
 pub fn number_up_to(limit: u64, word: &[u8]) -> Option<u64>
     requires small { limit ≤ 2 ^ 60 }
     ensures number { result ≡ digits.number_up_to limit word.now }

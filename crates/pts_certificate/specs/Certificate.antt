@@ -33,8 +33,8 @@ pub record Heading : Type 0 where
   pub name : Name
   pub defines : Bool
 
--- What may come next: the first line; the line of the sorts; a further axiom, or what may stand behind the axioms; a
--- further rule, or what may stand behind the rules; a declaration's first line, or `end`; a line of a declaration;
+-- What may come next: the first line; the line of the sorts; a further axiom, or what may follow the axioms; a
+-- further rule, or what may follow the rules; a declaration's first line, or `end`; a line of a declaration;
 -- nothing.
 pub data State : Type 0 where
   at_start : State
@@ -60,7 +60,7 @@ between_row front word fields =
     else if same_name word (codes "end") then alone fields (at_end front)
     else Err BadLine
 
--- The first line behind the rules: that the lists are no system comes before all that may be wrong with it.
+-- The first line after the rules: that the lists are no system comes before all that may be wrong with it.
 abbrev pub system_row : Spelled → Result Specification LineFault
 system_row w = elim (system_fault w) [ Some e ↦ Err (System e) | None ↦ Ok (specification_of w) ]
 
@@ -115,7 +115,7 @@ inside_row front h r word fields =
     else if same_name word (codes "qed") then and_then (qed_row h r fields) (λ d. Ok (between (with_declaration front d)))
     else Err BadLine
 
--- What may come behind a line, or why the line is refused.
+-- What may come after a line, or why the line is refused.
 abbrev pub step : State → List ℕ → Result State LineFault
 step at_start line = first_line line
 step at_sorts line = and_then (on_words sorts_row (words line)) (λ w. Ok (at_axioms w))
@@ -133,7 +133,7 @@ at_line n TooLarge = TooLargeAt n
 at_line n (System e) = NoSystem e
 at_line n Memory = NoMemory
 
--- The text may end behind the line `end` alone.
+-- The text may end after the line `end` alone.
 abbrev pub ended : State → Result Written CertificateFault
 ended (at_end whole) = Ok whole
 ended _ = Err Truncated
@@ -147,7 +147,7 @@ read_lines S n (line ∷ rest) = elim (step S line) [ Ok T ↦ read_lines T (n +
 unfoldable pub certificate_of : List ℕ → Result Written CertificateFault
 certificate_of text = read_lines at_start 1 (lines text)
 
--- What a fault means, unless it is want of memory.
+-- What a fault means, unless memory ran out.
 abbrev pub UnlessMemory : CertificateFault → Type 0 → Type 0
 UnlessMemory NoMemory P = Unit {0}
 UnlessMemory Truncated P = P

@@ -5,7 +5,7 @@ use Rattle.pts_ctx.specs.FaultText.{system_text}
 use Rattle.pts_certificate.specs.declared.fault.CertificateFault.{CertificateFault}
 use Rattle.pts_certificate.specs.declared.fault.CertificateFault.TheVariants.{BadLine, BadNumber, TooLarge, Truncated, System, Memory}
 
--- That memory lacks is no refusal.
+-- Running out of memory is no refusal.
 abbrev pub certificate_text : CertificateFault → List ℕ
 certificate_text (BadLine n) = codes "BadLine " ++ decimal n
 certificate_text (BadNumber n) = codes "BadNumber " ++ decimal n

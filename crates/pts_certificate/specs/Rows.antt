@@ -34,7 +34,7 @@ is_binder word = is_name word && (part_count word == 1)
 abbrev pub is_spelling : List ℕ → Bool
 is_spelling word = is_utf8 word && is_sort_spelling word
 
--- A word with nothing behind it.
+-- A word with nothing after it.
 abbrev pub alone : {A : Type 0} → List (List ℕ) → A → Result A LineFault
 alone [] a = Ok a
 alone (word ∷ fields) a = Err BadLine
@@ -66,7 +66,7 @@ sorts_row word fields =
     if same_name word (codes "sorts") then and_then (spellings fields) (λ sorts. Ok (written sorts [] []))
     else Err BadLine
 
--- Two, and three, spellings that stand in the line `sorts`, and nothing behind them.
+-- Two, and three, spellings that stand in the line `sorts`, and nothing after them.
 abbrev pub two_sorts : List (List ℕ) → List (List ℕ) → Result (List ℕ × List ℕ) LineFault
 two_sorts sorts (s1 ∷ s2 ∷ []) = if is_declared sorts s1 && is_declared sorts s2 then Ok (s1, s2) else Err BadLine
 two_sorts sorts _ = Err BadLine
@@ -88,7 +88,7 @@ abbrev pub name_row : List (List ℕ) → Result Name LineFault
 name_row (x ∷ []) = word_where is_name x
 name_row _ = Err BadLine
 
--- The forms of terms, behind `t`.
+-- The forms of terms, after `t`.
 abbrev pub term_rows : List (List ℕ × RowKind)
 term_rows =
     (codes "sort", SortTerm)
@@ -120,7 +120,7 @@ var_row fields = and_then (numbers 1 fields) (λ ks. Ok (Var (number_in ks 0)))
 abbrev pub app_row : List (List ℕ) → Result Shape LineFault
 app_row fields = and_then (numbers 2 fields) (λ ks. Ok (App (number_in ks 0) (number_in ks 1)))
 
--- A binder's name, and so many numbers behind it.
+-- A binder's name, and so many numbers after it.
 abbrev pub binder_row : ℕ → List (List ℕ) → Result (Name × List ℕ) LineFault
 binder_row count [] = Err BadLine
 binder_row count (x ∷ fields) = and_then (word_where is_binder x) (λ y. and_then (numbers count fields) (λ ks. Ok (y, ks)))
@@ -149,11 +149,11 @@ row_of_kind S LetTerm fields = let_row fields
 abbrev pub row_of_word : Specification → List ℕ → List (List ℕ) → Result Shape LineFault
 row_of_word S word fields = elim (row_of term_rows word) [ Some kind ↦ row_of_kind S kind fields | None ↦ Err BadLine ]
 
--- The term that is written behind `t`.
+-- The term that is written after `t`.
 unfoldable pub term_row : Specification → List (List ℕ) → Result Shape LineFault
 term_row S fields = on_words (row_of_word S) fields
 
--- The forms of nodes, behind `n`, and how many numbers stand behind each. They are P in `assume` and `define`, C in
+-- The forms of nodes, after `n`, and how many numbers follow each. They are P in `assume` and `define`, C in
 -- `bare`, and the first of C T U P Q R in all others.
 abbrev pub node_rows : List (List ℕ × (Form × ℕ))
 node_rows =
@@ -197,7 +197,7 @@ abbrev pub node_of_word : List ℕ → List (List ℕ) → Result Node LineFault
 node_of_word word fields =
     elim (row_of node_rows word) [ Some row ↦ and_then (numbers row.1 fields) (λ ks. Ok (node_with row.0 ks)) | None ↦ Err BadLine ]
 
--- The node that is written behind `n`.
+-- The node that is written after `n`.
 unfoldable pub node_row : List (List ℕ) → Result Node LineFault
 node_row fields = on_words node_of_word fields
 

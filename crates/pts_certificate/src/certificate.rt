@@ -22,7 +22,7 @@ pub struct Certificate {
 /// # Errors
 ///
 /// The first line that is refused is named, with the first of `BadLine`, `BadNumber` and `TooLarge` that holds of it.
-/// `System` comes at the first line behind the rules, before all that may be wrong with that line. `Truncated` comes
+/// `System` comes at the first line after the rules, before all that may be wrong with that line. `Truncated` comes
 /// where no line is refused and none is `end`.
 #[tactic(auto, unfolding(crate::specs::Certificate::certificate_of))]
 pub fn read_certificate(alloc: Global, bytes: &[u8]) -> Result<Certificate, CertificateFault>

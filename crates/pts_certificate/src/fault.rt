@@ -49,7 +49,7 @@ pub(crate) enum LineFault {
     BadNumber,
     /// Its term is not within limits.
     TooLarge,
-    /// It stands behind lists that are no system.
+    /// It comes after lists that are no system.
     System(SystemFault),
     /// There was no memory for it.
     Memory,

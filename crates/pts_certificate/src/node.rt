@@ -8,7 +8,7 @@ use crate::split::Words;
 use crate::table::row_of;
 use pts_record::{Form, Node};
 
-/// The forms of nodes, and how many numbers stand behind each.
+/// The forms of nodes, and how many numbers follow each.
 const NODE_ROWS: [(&str, (Form, usize)); 20] = [
     ("empty", (Form::Empty, 0)),
     ("assume", (Form::Assume, 1)),
@@ -32,7 +32,7 @@ const NODE_ROWS: [(&str, (Form, usize)); 20] = [
     ("cpi", (Form::CongPi, 5)),
 ];
 
-/// The node that is written behind `n`.
+/// The node that is written after `n`.
 #[tactic(auto, unfolding(crate::specs::Rows::node_row))]
 pub(crate) fn node_row(mut fields: Words) -> Result<Node, LineFault>
     ensures { result ≡ format.node_row fields.entry }
@@ -46,7 +46,7 @@ pub(crate) fn node_row(mut fields: Words) -> Result<Node, LineFault>
     }
 }
 
-/// The form that a word names, and how many numbers stand behind it.
+/// The form that a word names, and how many numbers stand after it.
 fn form_of(word: &[u8]) -> Option<(Form, usize)>
     ensures row { result ≡ format.row_of node_rows word.now }
     ensures few { IfSome result (λ row. row.1 ≤ 6) }

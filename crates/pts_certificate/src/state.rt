@@ -36,9 +36,9 @@ pub(crate) enum State {
     Start,
     /// The line of the sorts.
     Sorts,
-    /// A further axiom, or what may stand behind the axioms.
+    /// A further axiom, or what may follow the axioms.
     Axioms(Lists),
-    /// A further rule, or what may stand behind the rules.
+    /// A further rule, or what may follow the rules.
     Rules(Lists),
     /// A declaration's first line, or `end`.
     Between(Front),
@@ -48,7 +48,7 @@ pub(crate) enum State {
     End(Front),
 }
 
-/// What may come behind a line.
+/// What may come after a line.
 pub(crate) fn step(alloc: Global, state: State, line: &[u8]) -> Result<State, LineFault>
     ensures { AnswersAs state_of result (format.step (state_of state) line.now) }
 {
@@ -131,7 +131,7 @@ fn rules_row(alloc: Global, lists: Lists, word: &[u8], fields: Words) -> Result<
     behind_rules(alloc, lists, word, fields)
 }
 
-/// The first line behind the rules.
+/// The first line after the rules.
 fn behind_rules(alloc: Global, lists: Lists, word: &[u8], fields: Words) -> Result<State, LineFault>
     ensures { AnswersAs state_of result (format.behind_rules (spelled lists) word.now fields.entry) }
 {

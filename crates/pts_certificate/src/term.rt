@@ -23,7 +23,7 @@ const TERM_ROWS: [(&str, RowKind); 7] = [
     ("let", RowKind::LetTerm),
 ];
 
-/// The term that is written behind `t`.
+/// The term that is written after `t`.
 #[tactic(auto, unfolding(crate::specs::Rows::term_row))]
 pub(crate) fn term_row(
     alloc: Global,
@@ -117,7 +117,7 @@ fn let_row(alloc: Global, fields: Words) -> Result<Shape, LineFault>
     Ok(Shape::Let(name, numbers.link(0), numbers.link(1), numbers.link(2)))
 }
 
-/// A binder's name and the numbers behind it.
+/// A binder's name and the numbers after it.
 fn binder_row(alloc: Global, mut fields: Words, count: usize) -> Result<(Name, Numbers), LineFault>
     requires { count ≤ 6 }
     ensures { Answers result (format.binder_row count fields.entry) }

@@ -7,7 +7,7 @@
 --   app  = atom { atom }
 --   atom = sort | name | "(" term ")"
 --
--- An ident is a name of one part. `Reads ts T us` says that the tokens ts begin with a text of T, and that us is behind
+-- An ident is a name of one part. `Reads ts T us` says that the tokens ts begin with a text of T, and that us is after
 -- it; so ts is a text of T if `Reads ts T []`. The same for an app and an atom.
 use Rattle.std.specs.Prelude.{◌≡◌, ℕ, List, ◌∷◌, true}
 use Rattle.pts_names.specs.Name.{Name, is_identifier, underscore}
@@ -26,7 +26,7 @@ mutual
   pub data App : List Spot → Syntax → List Spot → Type 0 where
     atoms : {ts us vs : List Spot} {a f : Syntax} → Atom ts a us → Args a us f vs → App ts f vs
 
-  -- `Args f us g vs`: us begins with arguments, and vs is behind them; f applied to them in their order is g.
+  -- `Args f us g vs`: us begins with arguments, and vs is after them; f applied to them in their order is g.
   pub data Args : Syntax → List Spot → Syntax → List Spot → Type 0 where
     no_more : {f : Syntax} {us : List Spot} → Args f us f us
     one_more : {us vs ws : List Spot} {a f g : Syntax} → Atom us a vs → Args (app f a) vs g ws → Args f us g ws

@@ -29,7 +29,7 @@ syntax = record { of_sort = sort; of_name = name; applied = app; bound = bound_s
 
 -- A construct that is open, with what was read of it: a parenthesis, perhaps with the function before it; what a lambda
 -- or a product binds, at its type and at its body; a local definition, at its definition, its type and its body; and a
--- product behind its arrow.
+-- product after its arrow.
 pub data Frame (D : Type 0) : Type 0 where
   in_parens : Option D → Frame D
   at_type : Binder → Name → Frame D
@@ -40,7 +40,7 @@ pub data Frame (D : Type 0) : Type 0 where
   behind_arrow : D → Frame D
 
 -- Where the reading is, with the open constructs, the innermost first: before a term; before the name of a binder or
--- behind it; the same for a local definition; or behind an application that may go on.
+-- after it; the same for a local definition; or after an application that may go on.
 pub data State (D : Type 0) : Type 0 where
   begin : List (Frame D) → State D
   binder : Binder → List (Frame D) → State D
@@ -57,7 +57,7 @@ pub data Move (D : Type 0) : Type 0 where
   fail : Kind → Move D
   deep : Move D
 
--- What is read, and the tokens behind it; or the place at which another kind of token is wanted; or that of a
+-- What is read, and the tokens after it; or the place at which another kind of token is wanted; or that of a
 -- parenthesis that is one too many.
 pub data ParseOutcome (D : Type 0) : Type 0 where
   read : D → List Spot → ParseOutcome D
@@ -70,7 +70,7 @@ opened [] = 0
 opened (in_parens f ∷ K) = suc (opened K)
 opened (_ ∷ K) = opened K
 
--- Whether the construct needs a token behind the part that is being read.
+-- Whether the construct needs a token after the part that is being read.
 abbrev pub is_bracket : {D : Type 0} → Frame D → Bool
 is_bracket (in_parens f) = true
 is_bracket (at_type b x) = true
@@ -83,7 +83,7 @@ module _ {D : Type 0} (B : Build D) where
   applied_to None a = a
   applied_to (Some f) a = B.applied f a
 
-  -- A token behind a whole term. A construct that needs no token ends with the term.
+  -- A token after a whole term. A construct that needs no token ends with the term.
   abbrev pub closing : List (Frame D) → D → Token → Move D
   closing [] T t = stay T
   closing (at_body b x A ∷ K) T t = closing K (B.bound b x A T) t
@@ -129,7 +129,7 @@ module _ {D : Type 0} (B : Build D) where
   step more (after K f) (p, Arrow) = go (begin (behind_arrow f ∷ K))
   step more (after K f) (p, t) = closing K f t
 
-  -- The end of the text behind a whole term.
+  -- The end of the text after a whole term.
   abbrev pub whole : ℕ → List (Frame D) → D → ParseOutcome D
   whole length [] T = read T []
   whole length (at_body b x A ∷ K) T = whole length K (B.bound b x A T)

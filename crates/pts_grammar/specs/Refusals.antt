@@ -16,11 +16,11 @@ use Rattle.pts_grammar.specs.Grammar.{Reads}
 abbrev pub Viable : List Spot → Type 0
 Viable vs = (us : List Spot) × (T : Syntax) × Reads (vs ++ us) T []
 
--- This token can stand behind them.
+-- This token can stand after them.
 abbrev pub CanFollow : List Spot → Token → Type 0
 CanFollow vs t = Viable (vs ++ (0, t) ∷ [])
 
--- What must stand behind the tokens vs. Where a construct can be closed there, that is the token which closes it, also
+-- What must be after the tokens vs. Where a construct can be closed there, that is the token which closes it, also
 -- where the term before it could still go on; so a term is wanted where one can begin and nothing can be closed.
 pub data Wants (vs : List Spot) : Kind → Type 0 where
   a_colon : CanFollow vs token.Colon → Wants vs Colon
@@ -32,13 +32,13 @@ pub data Wants (vs : List Spot) : Kind → Type 0 where
   a_name : (x : Text) → CanFollow vs (Word x) → ((s : Text) → ¬ CanFollow vs (Sort s)) → Wants vs Name
   a_term : (s : Text) → CanFollow vs (Sort s) → ¬ CanFollow vs token.Colon → ¬ CanFollow vs token.Dot → ¬ CanFollow vs token.Assign → ¬ CanFollow vs token.In → ¬ CanFollow vs token.Close → ((T : Syntax) → ¬ Reads vs T []) → Wants vs Term
 
--- The kind k must stand at a place of the text with the tokens ts: at the first token with which it can't go on to a
+-- The kind k must be at a place of the text with the tokens ts: at the first token with which it can't go on to a
 -- term, or at its end, if it is no term and could go on.
 pub data Refused (length : ℕ) (ts : List Spot) (k : Kind) : ℕ → Type 0 where
   at_token : (vs us : List Spot) (p : ℕ) (t : Token) → ts ≡ vs ++ (p, t) ∷ us → Viable vs → ¬ Viable (vs ++ (p, t) ∷ []) → Wants vs k → Refused length ts k p
   at_length : Viable ts → ((T : Syntax) → ¬ Reads ts T []) → Wants ts k → Refused length ts k length
 
--- How many parentheses are open behind the tokens, if n are open before them.
+-- How many parentheses are open after the tokens, if n are open before them.
 abbrev pub open_behind : ℕ → List Spot → ℕ
 open_behind n [] = n
 open_behind n ((p, Open) ∷ ts) = open_behind (suc n) ts
@@ -62,7 +62,7 @@ abbrev pub TooDeepTerm : ℕ → List Spot → Type 0
 TooDeepTerm limit ts = (T : Syntax) × Reads ts T [] × (limit < depth_of T)
 
 -- What a refusal of the tokens ts means, of a text of this length. A parenthesis that is one too many comes before
--- whatever is wrong behind it.
+-- whatever is wrong after it.
 abbrev pub Refuses : ℕ → List Spot → SyntaxFault → Type 0
 Refuses length ts (Expected p k) = Refused length ts k p × NoneTooMany 2000 ts
 Refuses length ts (TooDeep p) = FirstTooMany 2000 ts p ⊎ ((p ≡ length) × TooDeepTerm 2000 ts × NoneTooMany 2000 ts)

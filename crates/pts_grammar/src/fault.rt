@@ -6,7 +6,7 @@ use std::alloc::AllocError;
 /// Why tokens are no text of a term. A place is the number of bytes before it.
 #[derive(Debug, Drop, PartialEq, Eq)]
 pub enum SyntaxFault {
-    /// This kind of token must stand at this place.
+    /// This kind of token must be at this place.
     Expected(usize, Kind),
     /// The parenthesis at this place is open beside 2,000 others; or the term is deeper than 2,000, and the place is the
     /// text's length.

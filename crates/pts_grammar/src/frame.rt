@@ -20,6 +20,6 @@ pub(crate) enum Frame {
     LetValue(Name),
     LetType(Name, Subtree),
     LetBody(Name, Subtree, Subtree),
-    /// A product behind its arrow.
+    /// A product after its arrow.
     Arrow(Subtree),
 }

@@ -1,7 +1,7 @@
 use std::fmt;
 use std::fmt::{Display, Formatter};
 
-/// What must stand at a place. The first three and `Semicolon`, `Number` belong to lines of commands alone.
+/// What must be at a place. `Command`, `Plain`, `Semicolon` and `Number` belong to lines of commands alone.
 #[derive(Clone, Copy, Debug, PartialEq, Eq)]
 pub enum Kind {
     /// The word of a command.

@@ -10,7 +10,7 @@ pub fn texts_are_unambiguous()
     ensures { (ts : List Spot) (T U : Syntax) → Reads ts T [] → Reads ts U [] → T ≡ U }
 {}
 
-/// A law: the grammar refuses a text at one place at most, where one kind of token must stand.
+/// A law: the grammar refuses a text at one place at most, where one kind of token must be.
 #[tactic(auto, using(crate::proofs::Determined::determined))]
 pub fn refusals_are_determined()
     ensures { RefusalsAreDetermined }

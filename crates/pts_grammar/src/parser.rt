@@ -21,9 +21,9 @@ use std::alloc::{AllocError, Global};
 /// What comes of reading a term.
 #[derive(Debug, Drop)]
 pub enum Parsed {
-    /// A term, and how many tokens there are before those behind it. There is no tree where it is deeper than 2,000.
+    /// A term, and how many tokens there are before those after it. There is no tree where it is deeper than 2,000.
     Read(Option<Tree>, usize),
-    /// This kind of token must stand at this place.
+    /// This kind of token must be at this place.
     Expected(usize, Kind),
     /// More than 2,000 parentheses are open at this place.
     TooDeep(usize),
@@ -133,7 +133,7 @@ fn first(stack: &mut Stack, place: usize, next: &Token) -> Result<Move, AllocErr
     }
 }
 
-/// A token behind an application.
+/// A token after an application.
 fn further(
     alloc: Global,
     stack: &mut Stack,
@@ -161,7 +161,7 @@ fn further(
     }
 }
 
-/// Opens a parenthesis, perhaps behind a function, if another one may be open.
+/// Opens a parenthesis, perhaps after a function, if another one may be open.
 fn open(stack: &mut Stack, function: Option<Subtree>) -> Result<Move, AllocError>
     ensures { IfOk result (λ m. move_of (map frame stack.new) m ≡ machine.opening parts more (option_map part_of function) (map frame stack.old)) }
 {
@@ -172,7 +172,7 @@ fn open(stack: &mut Stack, function: Option<Subtree>) -> Result<Move, AllocError
     Ok(Move::Go(State::Begin))
 }
 
-/// What a token does behind a whole term.
+/// What a token does after a whole term.
 fn close(alloc: Global, stack: &mut Stack, whole: Subtree, next: &Token) -> Result<Move, AllocError>
     ensures { IfOk result (λ m. move_of (map frame stack.new) m ≡ machine.closing parts (map frame stack.old) (part_of whole) next.now) }
 {
@@ -207,7 +207,7 @@ fn widen(alloc: Global, last: Frame, whole: Subtree) -> Result<Around, AllocErro
     }
 }
 
-/// A token behind a whole part of a construct that needs one.
+/// A token after a whole part of a construct that needs one.
 fn bracket(
     alloc: Global,
     stack: &mut Stack,

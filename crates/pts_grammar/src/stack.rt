@@ -59,7 +59,7 @@ impl Stack {
         self.frames.push(new)
     }
 
-    /// Opens a parenthesis, perhaps behind a function.
+    /// Opens a parenthesis, perhaps after a function.
     #[tactic(auto, using(crate::proofs::Stacks::newest_more, crate::proofs::Stacks::opened_more))]
     pub(crate) fn open(&mut self, function: Option<Subtree>) -> Result<(), AllocFailed<Frame>>
         requires { opened (map frame self.old) < 2000 }

@@ -8,13 +8,13 @@ use pts_names::Name;
 pub(crate) enum State {
     /// Before a term.
     Begin,
-    /// Before the name that a binder binds, and behind it.
+    /// Before the name that a binder binds, and after it.
     Binder(Binder),
     BinderSign(Binder, Name),
     /// The same for a local definition.
     LetName,
     LetSign(Name),
-    /// Behind an application that may go on.
+    /// After an application that may go on.
     After(Subtree),
 }
 
@@ -23,15 +23,15 @@ pub(crate) enum State {
 pub(crate) enum Move {
     /// The reading goes on.
     Go(State),
-    /// The token stands behind this whole term, and nothing is open.
+    /// The token comes after this whole term, and nothing is open.
     Stay(Subtree),
-    /// Another kind of token must stand here.
+    /// Another kind of token must be here.
     Fail(Kind),
     /// One parenthesis is open too many.
     Deep,
 }
 
-/// A whole part: in a term that ends with it, or in a construct that needs a token behind it.
+/// A whole part: in a term that ends with it, or in a construct that needs a token after it.
 #[derive(Debug, Drop)]
 pub(crate) enum Around {
     Wider(Subtree),

@@ -15,7 +15,7 @@ use std::alloc::Global;
 ///
 /// # Errors
 ///
-/// The tokens are read from the left. `Expected` names the first that does not fit and what must stand there: the token
+/// The tokens are read from the left. `Expected` names the first that does not fit and what must be there: the token
 /// that closes the innermost open construct, also where a term before it could go on, `Term` where a term must begin,
 /// and `Name` for a binder. `TooDeep` comes at a parenthesis that is open beside 2,000 others; and at last, at the text's
 /// length, where the term is too deep.

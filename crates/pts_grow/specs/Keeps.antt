@@ -12,7 +12,7 @@ use Rattle.pts_grow.specs.declared.fault.TermFault.{TermFault}
 use Rattle.pts_grow.specs.declared.fault.TermFault.TheVariants.{TooLarge, Memory}
 use Rattle.pts_grow.specs.declared.compared.Compared.{Compared}
 
--- The second record has what the first one has, perhaps with further lines behind it, and what was said is said.
+-- The second record has what the first one has, perhaps with further lines after it, and what was said is said.
 pub record Keeps (a b : Tables) : Type 0 where
   pub shapes : take (length a.shapes) b.shapes ≡ a.shapes
   pub nodes : take (length a.nodes) b.nodes ≡ a.nodes

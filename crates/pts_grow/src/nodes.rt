@@ -17,7 +17,7 @@ use std::alloc::AllocError;
 ///
 /// # Errors
 ///
-/// Only want of memory.
+/// Only that memory runs out.
 #[tactic(auto, using(crate::proofs::Grow::pushed))]
 pub fn push(proof: &mut Record, node: Node) -> Result<usize, AllocError>
     requires links { AllBelow (length proof.old.nodes) (node_links node) }

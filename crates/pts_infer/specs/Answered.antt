@@ -38,7 +38,7 @@ abbrev pub behind : List Name → Flaw → Flaw
 behind xs f = record { place = f.place; names = xs ++ f.names; kind = f.kind }
 
 -- Why there was no answer, with b units before and k after it: the outcome is the flaw that is told, or something
--- beyond the limits; or each outcome costs more than b, and the meter stands at its limit. Want of memory is free.
+-- beyond the limits; or each outcome costs more than b, and the meter stands at its limit. Running out of memory is free.
 abbrev pub Refused : {A : Type 0} → List Name → (Outcome Flaw A → ℕ → Type 0) → InferFault → ℕ → ℕ → Type 0
 Refused xs costs (infer.Flaw f) b k = (g : Flaw) × (flaw_seen f ≡ behind xs g) × WithinBudget costs b (stops (by_flaw g)) k
 Refused xs costs infer.Spent b k = AboveBudget costs b × (k ≡ 0)

@@ -56,7 +56,7 @@ kind_of ss (NotConvertible place have want) = not_convertible place (named_at ss
 abbrev pub flaw_of : List Shape → FoundFlaw → Flaw
 flaw_of ss f = record { place = reverse f.place.items; names = reverse f.names.items; kind = kind_of ss f.what }
 
--- A fault with k units left: the work came to the same. Want of memory is free.
+-- A fault with k units left: the work came to the same. Running out of memory is free.
 abbrev pub StopsWith : {A : Type 0} → List Shape → Fault → ℕ → Run Flaw A → Type 0
 StopsWith ss Memory k r = Unit {0}
 StopsWith ss Spent k r = (r ≡ spent) × (k ≡ 0)

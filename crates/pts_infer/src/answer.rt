@@ -29,7 +29,7 @@ pub enum FlawKind {
 }
 
 /// A flaw of a term: the numbers of the parts that lead to it, from 0 on, and the names of its free variables, the
-/// outermost first: those that were handed in, and behind them those of the binders on the way.
+/// outermost first: those that were handed in, and after them those of the binders on the way.
 #[derive(Debug, Drop)]
 pub struct Flaw {
     pub place: List<u8>,

@@ -59,7 +59,7 @@ pub(crate) fn infer_in(
     infer_form(system, front, proof, ctx, term, allowed - 1, meter)
 }
 
-// The same behind the unit.
+// The same after the unit.
 #[cycle(inferring)]
 #[tactic(auto, using(pts_grow::proofs::Grow::keeping, pts_grow::proofs::Judgements::still, pts_reduce::proofs::Paid::later, crate::proofs::Atoms::sorts, pts_infer_cost::proofs::Steps::forms))]
 fn infer_form(

@@ -137,7 +137,7 @@ pub(crate) fn infer_constant(
     }
 }
 
-// A variable has the type of its entry, past that entry and those behind it.
+// A variable has the type of its entry, past that entry and those after it.
 #[tactic(auto, using(pts_grow::proofs::Grow::keeping, pts_grow::proofs::Judgements::still, pts_reduce::proofs::Paid::later, crate::proofs::Atoms::sorts, crate::proofs::Atoms::variables, pts_grow::proofs::Plain::plainly))]
 pub(crate) fn infer_variable(
     proof: &mut Record,

@@ -50,7 +50,7 @@ fn copies(alloc: Global, names: &[Name]) -> Result<Vec<Name>, AllocError>
     Ok(copies)
 }
 
-// The given names, and behind them those that were passed, of which the last is the outermost.
+// The given names, and after them those that were passed, of which the last is the outermost.
 fn show_names(alloc: Global, given: &[Name], passed: Vec<Name>) -> Result<List<Name>, AllocError>
     ensures { IfOk result (λ l. l ≡ given.now ++ reverse passed.items) }
 {

@@ -1,4 +1,4 @@
-// Flaws, which are found deep inside and told from the whole.
+// Flaws, which are found deep inside and shown from the whole.
 
 ghost use Rattle.std.specs.Prelude.{◌≡◌, ◌<◌, ℕ, List, length};
 ghost use Rattle.pts_record.specs.declared.shape.Shape.{Shape};
@@ -54,7 +54,7 @@ fn outwards(alloc: Global, found: Boxed<FoundFlaw>, part: u8) -> Fault
     }
 }
 
-// A found flaw, from the part with that number behind a binder.
+// A found flaw, from the part with that number under a binder.
 #[tactic(auto, using(crate::proofs::Outwards::outwards_under))]
 fn outwards_under(alloc: Global, found: Boxed<FoundFlaw>, part: u8, x: &Name) -> Fault
     ensures { (ss : List Shape) → ToldAs (under part x.now) ss (Fault.Flawed found) result }
@@ -73,7 +73,7 @@ fn outwards_under(alloc: Global, found: Boxed<FoundFlaw>, part: u8, x: &Name) ->
     }
 }
 
-/// A fault of the part with that number, told from the whole.
+/// A fault of the part with that number, shown from the whole.
 pub(crate) fn into_part(alloc: Global, fault: Fault, part: u8) -> Fault
     ensures { (ss : List Shape) → ToldAs (into part) ss fault result }
 {
@@ -85,7 +85,7 @@ pub(crate) fn into_part(alloc: Global, fault: Fault, part: u8) -> Fault
     }
 }
 
-/// A fault of the part with that number behind a binder, told from the whole.
+/// A fault of the part with that number under a binder, shown from the whole.
 pub(crate) fn under_binder(alloc: Global, fault: Fault, part: u8, x: &Name) -> Fault
     ensures { (ss : List Shape) → ToldAs (under part x.now) ss fault result }
 {
@@ -97,7 +97,7 @@ pub(crate) fn under_binder(alloc: Global, fault: Fault, part: u8, x: &Name) -> F
     }
 }
 
-// A type that is no sort's, of what is behind a binder.
+// A type that is no sort's, of what is under a binder.
 #[tactic(auto, using(crate::proofs::Outwards::found_told))]
 fn unsorted_behind(alloc: Global, part: u8, x: &Name, ty: usize) -> Fault
     ensures { (ss : List Shape) → ty < length ss → FoundAs ss (under part x.now (here (not_a_sort (named_at ss ty)))) result }
@@ -143,7 +143,7 @@ pub(crate) fn for_wanted(fault: Fault) -> Misfit
     }
 }
 
-/// A fault of the fit of an argument, told from the application.
+/// A fault of the fit of an argument, shown from the application.
 #[tactic(auto, using(crate::proofs::Outwards::argument_told))]
 pub(crate) fn for_argument(alloc: Global, misfit: Misfit, domain: usize) -> Fault
     ensures { (ss : List Shape) → domain < length ss → ToldOf (of_argument (named_at ss domain)) ss misfit result }
@@ -157,7 +157,7 @@ pub(crate) fn for_argument(alloc: Global, misfit: Misfit, domain: usize) -> Faul
     }
 }
 
-/// A fault of the fit of what is defined, told from the local definition.
+/// A fault of the fit of what is defined, shown from the local definition.
 #[tactic(auto, using(crate::proofs::Outwards::definition_told))]
 pub(crate) fn for_definition(alloc: Global, misfit: Misfit) -> Fault
     ensures { (ss : List Shape) → ToldOf of_definition ss misfit result }

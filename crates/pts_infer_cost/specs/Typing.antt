@@ -29,14 +29,14 @@ pub record Flaw : Type 0 where
 abbrev pub here : Kind → Flaw
 here k = record { place = []; names = []; kind = k }
 
--- The flaw of a part, seen from the whole; and of a part behind the binder x.
+-- The flaw of a part, seen from the whole; and of a part after the binder x.
 abbrev pub into : ℕ → Flaw → Flaw
 into i f = record { place = i ∷ f.place; names = f.names; kind = f.kind }
 
 abbrev pub under : ℕ → Name → Flaw → Flaw
 under i x f = record { place = i ∷ f.place; names = x ∷ f.names; kind = f.kind }
 
--- What lies behind the binder x has a type B, and B has no sort.
+-- What lies after the binder x has a type B, and B has no sort.
 abbrev pub unsorted : ℕ → Name → Named → Flaw → Flaw
 unsorted i x B f = under i x (here (not_a_sort B))
 
@@ -84,7 +84,7 @@ abbrev pub as_product : Named → Option (Named × Named)
 as_product (named_pi x A B) = Some (A, B)
 as_product t = None
 
--- The type of an entry, behind the entry itself. Of an unknown one there is none.
+-- The type of an entry, after the entry itself. Of an unknown one there is none.
 abbrev pub type_at : ℕ → Option (Local Name) → Option Named
 type_at i None = None
 type_at i (Some (assumed A)) = Some (lift 0 (suc i) A)

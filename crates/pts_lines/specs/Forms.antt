@@ -1,4 +1,4 @@
--- How the reader goes through a line: what stands behind what, and what comes of it.
+-- How the reader goes through a line: what stands after what, and what comes of it.
 use Rattle.std.specs.Prelude.{◌≡◌, ℕ, zero, suc, List, [], ◌∷◌, length, Bool, true, false, Option, Some, None, option_map, Result, Ok, Err}
 use Rattle.pts_names.specs.Name.{Name}
 use Rattle.pts_tokens.specs.declared.token.Token.{Token}
@@ -23,7 +23,7 @@ abbrev pub AnswersAs : {A B : Type 0} → (A → B) → Result A ReadFault → R
 AnswersAs seen (Ok a) r = r ≡ Ok (seen a)
 AnswersAs seen (Err e) r = UnlessMemory e (r ≡ Err e)
 
--- The signs that can stand behind a term.
+-- The signs that can stand after a term.
 pub data Sign : Type 0 where
   by_assign : Sign
   by_semicolon : Sign
@@ -32,8 +32,8 @@ abbrev pub item_of : Sign → Item
 item_of by_assign = assign
 item_of by_semicolon = semicolon
 
--- The form of what stands behind a word: nothing, with this to be answered, or `None` where a term was too deep; a
--- token and the rest; a term behind which nothing stands; a term, a sign and the rest; any number of terms.
+-- The form of what stands after a word: nothing, with this to be answered, or `None` where a term was too deep; a
+-- token and the rest; a term after which nothing stands; a term, a sign and the rest; any number of terms.
 pub data LineForm (R : Type 0) : Type 0 where
   ends : Option R → LineForm R
   item : (i : Item) → (Value i → LineForm R) → LineForm R
@@ -72,11 +72,11 @@ module _ (kept : Syntax → Subtree) (more : ℕ → Bool) (length : ℕ) where
   of_outcome (expected p k) = Err (Expected p k)
   of_outcome (too_deep p) = Err (TooDeep p)
 
-  -- The term with which the tokens begin, and the tokens behind it.
+  -- The term with which the tokens begin, and the tokens after it.
   unfoldable pub first_term : List Spot → Result (Subtree × List Spot) ReadFault
   first_term ts = of_outcome (run syntax more length (begin []) ts)
 
-  -- A term of several, and the tokens behind its semicolon; or none at the end.
+  -- A term of several, and the tokens after its semicolon; or none at the end.
   abbrev pub behind_term : Subtree → List Spot → Result (Subtree × Option (List Spot)) ReadFault
   behind_term T [] = Ok (T, None)
   behind_term T (s ∷ us) = elim (is_semicolon s.1) [ true ↦ Ok (T, Some us) | false ↦ Err (Expected s.0 end_wanted) ]
@@ -149,7 +149,7 @@ abbrev pub instance_form : LineForm (Name × Name × List Syntax)
 instance_form = item plain (λ m. item label (λ l. terms (λ Ts. option_map (λ Us. (m, l, Us)) (all_of Ts))))
 
 module _ (kept : Syntax → Subtree) (more : ℕ → Bool) (length : ℕ) where
-  -- What stands behind the word of a command.
+  -- What stands after the word of a command.
   abbrev pub run_command : Command → List Spot → Result Line ReadFault
   run_command (OfNothing c) ts = and_then (run_form kept more length alone_form ts) (λ u. Ok (alone c))
   run_command (OfPlain c) ts = and_then (run_form kept more length plain_form ts) (λ x. Ok (of_plain c x))
@@ -162,7 +162,7 @@ module _ (kept : Syntax → Subtree) (more : ℕ → Bool) (length : ℕ) where
   run_command Define ts = and_then (run_form kept more length definition_form ts) (λ r. Ok (definition r.0 r.1 r.2))
   run_command Instance ts = and_then (run_form kept more length instance_form ts) (λ r. Ok (instantiation r.0 r.1 r.2))
 
-  -- What stands behind a command or a declaration that a word may be.
+  -- What stands after a command or a declaration that a word may be.
   abbrev pub behind_word : Option Command → List Spot → Result Line ReadFault
   behind_word (Some c) ts = run_command c ts
   behind_word None ts = Err (Expected 0 command_wanted)

@@ -1,5 +1,5 @@
 -- What one token of a line can be: a name of one part other than `_`, one that may be a label, any name, a number of a
--- budget, a sign, or one of the two signs that may stand behind the name of a definition.
+-- budget, a sign, or one of the two signs that may follow the name of a definition.
 use Rattle.std.specs.Prelude.{ℕ, ◌+◌, ◌*◌, ◌-◌, ◌&&◌, ◌==◌, nat_le, length, List, [], ◌∷◌, Bool, true, false, if◌then◌else◌, Option, Some, None, Result, Ok, Err}
 use Rattle.pts_names.specs.Name.{Name, is_plain}
 use Rattle.pts_bytes.specs.Digits.{number_up_to}
@@ -39,7 +39,7 @@ Value assign = Unit {0}
 Value semicolon = Unit {0}
 Value sign = Bool
 
--- What must stand there. Where `:` and `:=` both fit, it is the latter.
+-- What must be there. Where `:` and `:=` both fit, it is the latter.
 abbrev pub wanted : Item → Kind
 wanted plain = kind.Plain
 wanted label = kind.Plain
@@ -70,7 +70,7 @@ said sign (p, Colon) = Some true
 said sign (p, Assign) = Some false
 said sign (p, _) = None
 
--- What the first token says, and the tokens behind it; or that another must stand there.
+-- What the first token says, and the tokens after it; or that another must stand there.
 abbrev pub or_expected : {A : Type 0} → ℕ → Kind → List Spot → Option A → Result (A × List Spot) ReadFault
 or_expected p k us (Some v) = Ok (v, us)
 or_expected p k us None = Err (Expected p k)

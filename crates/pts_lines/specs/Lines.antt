@@ -34,7 +34,7 @@ pub data Terms : List Spot → List Syntax → Type 0 where
   last_term : {ts : List Spot} {T : Syntax} → Reads ts T [] → Terms ts (T ∷ [])
   more_terms : {ts us : List Spot} {T : Syntax} {Ts : List Syntax} {p : ℕ} → Reads ts T ((p, Semicolon) ∷ us) → Terms us Ts → Terms ts (T ∷ Ts)
 
--- What stands behind the word of a command.
+-- What stands after the word of a command.
 pub data Follows : Command → List Spot → Line → Type 0 where
   nothing : {c : Alone} → Follows (OfNothing c) [] (alone c)
   a_plain : {c : Named} {p : ℕ} {x : Name} → is_plain x ≡ true → Follows (OfPlain c) ((p, Word x) ∷ []) (of_plain c x)
@@ -49,10 +49,10 @@ pub data Follows : Command → List Spot → Line → Type 0 where
   no_terms : {p q : ℕ} {m l : Name} → is_plain m ≡ true → is_label l ≡ true → Follows Instance ((p, Word m) ∷ (q, Word l) ∷ []) (instantiation m l [])
   some_terms : {p q : ℕ} {m l : Name} {ts : List Spot} {Ts : List Syntax} → is_plain m ≡ true → is_label l ≡ true → Terms ts Ts → Follows Instance ((p, Word m) ∷ (q, Word l) ∷ ts) (instantiation m l Ts)
 
--- A line: the word of a command, and what stands behind it. The words are given.
+-- A line: the word of a command, and what stands after it. The words are given.
 pub data LineReads (words : Name → Option Command) : List Spot → Line → Type 0 where
   a_line : {p : ℕ} {w : Name} {c : Command} {ts : List Spot} {L : Line} → words w ≡ Some c → Follows c ts L → LineReads words ((p, Word w) ∷ ts) L
 
--- A declaration of a module file: its word, and what stands behind it.
+-- A declaration of a module file: its word, and what stands after it.
 pub data DeclarationReads : List Spot → Declaring → Line → Type 0 where
   a_declaration : {p : ℕ} {w : Name} {d : Declaring} {ts : List Spot} {L : Line} → declared w ≡ Some d → Follows (rest_of d) ts L → DeclarationReads ((p, Word w) ∷ ts) d L

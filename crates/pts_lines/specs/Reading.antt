@@ -21,7 +21,7 @@ use Rattle.pts_lines.specs.Lines.{Line, Follows, LineReads, DeclarationReads}
 use Rattle.pts_lines.specs.Refusals.{Refused, NoneTooMany, FirstTooMany}
 use Rattle.pts_lines.specs.Seen.{deepest, terms_of}
 
--- What can stand behind the word of a command.
+-- What can stand after the word of a command.
 abbrev pub Behind : Command → List Spot → Type 0
 Behind c ts = (L : Line) × Follows c ts L
 
@@ -30,9 +30,9 @@ abbrev pub IsLine : (Name → Option Command) → List Spot → Type 0
 IsLine words ts = (L : Line) × LineReads words ts L
 
 -- How the grammar refuses the tokens of a text of this length: there is no word, which is wanted at the text's end; or
--- the first token is the word of no command, which is answered for place 0; or what stands behind it can't; or a
+-- the first token is the word of no command, which is answered for place 0; or what stands after it can't; or a
 -- parenthesis is one too many, the first such one being answered; or the line has a term that is deeper than 2,000. A
--- parenthesis that is one too many comes before whatever is wrong behind it.
+-- parenthesis that is one too many comes before whatever is wrong after it.
 pub data RefusesLine (words : Name → Option Command) (length : ℕ) : List Spot → ReadFault → Type 0 where
   no_word : RefusesLine words length [] (Expected length kind.Command)
   no_command : {s : Spot} {us : List Spot} → ((w : Name) (c : Command) → s.1 ≡ Word w → words w ≡ Some c → ⊥) → RefusesLine words length (s ∷ us) (Expected 0 kind.Command)

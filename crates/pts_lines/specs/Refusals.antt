@@ -12,11 +12,11 @@ use Rattle.pts_grammar.specs.Refusals.{open_behind}
 abbrev pub CanGoOn : (List Spot → Type 0) → List Spot → Type 0
 CanGoOn Is vs = (us : List Spot) × Is (vs ++ us)
 
--- This token can stand behind them.
+-- This token can stand after them.
 abbrev pub CanFollow : (List Spot → Type 0) → List Spot → Token → Type 0
 CanFollow Is vs t = CanGoOn Is (vs ++ (0, t) ∷ [])
 
--- What must stand behind the tokens vs. Where the text can end there, that is its end; else, where `:=` can stand, that;
+-- What must be after the tokens vs. Where the text can end there, that is its end; else, where `:=` can stand, that;
 -- else the sign that can stand there, also where a term before it could still go on. A name is wanted where `_` is one;
 -- a term where one can begin, no sign can stand, nothing can be closed, and the text can't end.
 pub data Wants (Is : List Spot → Type 0) (vs : List Spot) : Kind → Type 0 where
@@ -32,7 +32,7 @@ pub data Wants (Is : List Spot → Type 0) (vs : List Spot) : Kind → Type 0 wh
   a_plain : (x : Text) → CanFollow Is vs (token.Name x) → ¬ CanFollow Is vs (token.Name underscore) → ((s : Text) → ¬ CanFollow Is vs (token.Sort s)) → Wants Is vs kind.Plain
   a_term : (s : Text) → CanFollow Is vs (token.Sort s) → ¬ CanFollow Is vs token.Colon → ¬ CanFollow Is vs token.Dot → ¬ CanFollow Is vs token.Assign → ¬ CanFollow Is vs token.In → ¬ CanFollow Is vs token.Close → ¬ CanFollow Is vs token.Semicolon → ¬ Is vs → Wants Is vs kind.Term
 
--- The kind k must stand at a place of the text with the tokens ts: at the first token with which it can't go on, or at
+-- The kind k must be at a place of the text with the tokens ts: at the first token with which it can't go on, or at
 -- its end, whose place is given, if it is no text and could go on.
 pub data Refused (Is : List Spot → Type 0) (end : ℕ) (ts : List Spot) (k : Kind) : ℕ → Type 0 where
   at_token : (vs us : List Spot) (p : ℕ) (t : Token) → ts ≡ vs ++ (p, t) ∷ us → CanGoOn Is vs → ¬ CanGoOn Is (vs ++ (p, t) ∷ []) → Wants Is vs k → Refused Is end ts k p

@@ -84,7 +84,7 @@ command w =
     (option_or (option_map OfType (typed w))
     (other w)))))
 
--- The words of a module file, which has parameters, and what stands behind them: the same as behind `assume` and `define`.
+-- The words of a module file, which has parameters, and what stands after them: the same as after `assume` and `define`.
 abbrev pub declared : Name → Option Declaring
 declared w =
     if same_name w (codes "parameter") then Some Parameter

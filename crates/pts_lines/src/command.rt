@@ -11,7 +11,7 @@ pub(crate) enum Alone {
     Draft,
 }
 
-/// A command behind which a plain name stands.
+/// A command after which a plain name comes.
 #[derive(Clone, Copy, Debug, PartialEq, Eq)]
 pub(crate) enum Named {
     Load,
@@ -19,14 +19,14 @@ pub(crate) enum Named {
     Intro,
 }
 
-/// A command behind which any name stands.
+/// A command after which any name comes.
 #[derive(Clone, Copy, Debug, PartialEq, Eq)]
 pub(crate) enum Placed {
     Unfold,
     Show,
 }
 
-/// A command behind which a term stands.
+/// A command after which a term comes.
 #[derive(Clone, Copy, Debug, PartialEq, Eq)]
 pub(crate) enum Asked {
     Exact,
@@ -36,7 +36,7 @@ pub(crate) enum Asked {
     Reduce,
 }
 
-/// A command behind which a plain name stands with its type.
+/// A command after which a plain name comes with its type.
 #[derive(Clone, Copy, Debug, PartialEq, Eq)]
 pub(crate) enum WithType {
     Assume,
@@ -44,7 +44,7 @@ pub(crate) enum WithType {
     Cut,
 }
 
-/// A command, by what stands behind its word.
+/// A command, by what comes after its word.
 #[derive(Clone, Copy, Debug, PartialEq, Eq)]
 pub(crate) enum Command {
     OfNothing(Alone),

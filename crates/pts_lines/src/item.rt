@@ -10,7 +10,7 @@ use pts_parser::ReadFault;
 use pts_tokens::Token;
 use std::alloc::Global;
 
-/// A plain name, and the tokens behind it.
+/// A plain name, and the tokens after it.
 pub(crate) fn plain(
     tokens: &[(usize, Token)],
     length: usize,
@@ -26,7 +26,7 @@ pub(crate) fn plain(
     }
 }
 
-/// A plain name of at most 64 bytes, and the tokens behind it.
+/// A plain name of at most 64 bytes, and the tokens after it.
 pub(crate) fn label(
     tokens: &[(usize, Token)],
     length: usize,
@@ -42,7 +42,7 @@ pub(crate) fn label(
     }
 }
 
-/// Any name with its place, and the tokens behind it.
+/// Any name with its place, and the tokens after it.
 pub(crate) fn name(
     tokens: &[(usize, Token)],
     length: usize,
@@ -58,7 +58,7 @@ pub(crate) fn name(
     }
 }
 
-/// A number of units, and the tokens behind it.
+/// A number of units, and the tokens after it.
 pub(crate) fn number(
     tokens: &[(usize, Token)],
     length: usize,
@@ -76,7 +76,7 @@ pub(crate) fn number(
     Err(ReadFault::Expected(spot.0, Kind::Number))
 }
 
-/// The tokens behind `:`.
+/// The tokens after `:`.
 pub(crate) fn colon(
     tokens: &[(usize, Token)],
     length: usize,
@@ -92,7 +92,7 @@ pub(crate) fn colon(
     }
 }
 
-/// The tokens behind `:=`.
+/// The tokens after `:=`.
 pub(crate) fn assign(
     tokens: &[(usize, Token)],
     length: usize,
@@ -108,7 +108,7 @@ pub(crate) fn assign(
     }
 }
 
-/// The tokens behind `;`.
+/// The tokens after `;`.
 pub(crate) fn semicolon(
     tokens: &[(usize, Token)],
     length: usize,
@@ -124,7 +124,7 @@ pub(crate) fn semicolon(
     }
 }
 
-/// Whether `:` stands there and not `:=`, and the tokens behind it.
+/// Whether `:` stands there and not `:=`, and the tokens after it.
 pub(crate) fn sign(
     tokens: &[(usize, Token)],
     length: usize,

@@ -28,7 +28,7 @@ use std::alloc::Global;
 /// there: inside the terms as `parse_term` says, and else a `Plain` name, any `Name`, a `Number`, a `Semicolon`, a
 /// `Colon` or `Assign`, of which the latter where both fit, or the `End`, where the line may end. For a word that is no
 /// command the answer is `Expected(0, Command)`, wherever it stands. `TooDeep` comes at the first parenthesis that is
-/// open beside 2,000 others, before whatever does not fit behind it; and at last, at the text's length, where a term is
+/// open beside 2,000 others, before whatever does not fit after it; and at last, at the text's length, where a term is
 /// deeper than 2,000.
 pub fn read_line(alloc: Global, text: &str) -> Result<Line, ReadFault>
     ensures line { IfOk result (λ l. SaysLine text.now (line_of l)) }
@@ -58,7 +58,7 @@ fn line(alloc: Global, tokens: &[(usize, Token)], length: usize) -> Result<Line,
     }
 }
 
-/// The line of a command with these tokens behind its word.
+/// The line of a command with these tokens after its word.
 fn line_behind(
     alloc: Global,
     command: Command,

@@ -11,7 +11,7 @@ use pts_parser::ReadFault;
 use pts_tokens::Token;
 use std::alloc::{AllocError, Global};
 
-/// The term with which the tokens begin, if it is not too deep, and the tokens behind it.
+/// The term with which the tokens begin, if it is not too deep, and the tokens after it.
 #[tactic(auto, using(crate::proofs::Kept::first_is))]
 pub(crate) fn first_term(
     alloc: Global,
@@ -116,7 +116,7 @@ fn some_terms(
     }
 }
 
-/// A term of several, and the tokens behind the semicolon that follows it; or none where nothing does.
+/// A term of several, and the tokens after the semicolon that follows it; or none where nothing does.
 fn next_term(
     alloc: Global,
     tokens: &[(usize, Token)],

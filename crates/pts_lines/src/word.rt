@@ -107,7 +107,7 @@ fn typed(word: &str) -> Option<WithType>
     }
 }
 
-/// A word that no other shares what stands behind it with.
+/// A word after which no other has the same.
 #[tactic(auto, using(crate::proofs::Differs::differs))]
 fn other(word: &str) -> Option<Command>
     ensures { result ≡ words.other word.now }

@@ -43,7 +43,7 @@ abbrev pub behind_line : ℕ → File → Result (Stage × FileLine) FileWhy →
 behind_line n f (Ok r) others = others r.0 (with_entry f n r.1)
 behind_line n f (Err w) others = Err (n, w)
 
--- Lines from number n on, at this stage, behind these.
+-- Lines from number n on, at this stage, after these.
 abbrev pub read_lines : Name → Stage → ℕ → File → List (List ℕ) → Result File (ℕ × FileWhy)
 read_lines asked s n f [] = at_last s n f
 read_lines asked s n f (line ∷ lines) = behind_line n f (line_at asked s line) (λ r g. read_lines asked r (suc n) g lines)

@@ -28,7 +28,7 @@ pub data FileLine : Type 0 where
   uses : Name → FileLine
   declares : Declaring × Line → FileLine
 
--- Which stage parameters and declarations may stand in, and what may stand behind them.
+-- Which stage parameters and declarations may stand in, and what may follow them.
 abbrev pub may_declare : Stage → Declaring → Bool
 may_declare Uses d = true
 may_declare Parameters d = true
@@ -62,7 +62,7 @@ declared (Err e) = Err (Read e)
 abbrev pub ending : Stage → List ℕ → Result (Stage × FileLine) FileWhy
 ending s line = if may_declare s declaring.Assume && same_name line (codes "end") then Ok (Ended, fixed) else Err Form
 
--- A line behind the heading that is no `uses`: the line of a declaration, or the end.
+-- A line after the heading that is no `uses`: the line of a declaration, or the end.
 abbrev pub declaring_line : Stage → List ℕ → Option Declaring → Result (Stage × FileLine) FileWhy
 declaring_line s line (Some d) = if may_declare s d then declared (declaration_said line) else Err Form
 declaring_line s line None = ending s line
@@ -70,7 +70,7 @@ declaring_line s line None = ending s line
 abbrev pub later_line : Stage → List ℕ → Result (Stage × FileLine) FileWhy
 later_line s line = declaring_line s line (declared_first line)
 
--- A line `uses N`, or what may stand behind them.
+-- A line `uses N`, or what may follow them.
 abbrev pub uses_line : List ℕ → Result (Stage × FileLine) FileWhy
 uses_line line = if same_name (take 5 line) (codes "uses ") && is_short_text (drop 5 line) then Ok (Uses, uses (drop 5 line)) else later_line Uses line
 
@@ -89,6 +89,6 @@ staged_line asked Parameters line = later_line Parameters line
 staged_line asked Declarations line = later_line Declarations line
 staged_line asked Ended line = Err Form
 
--- What a line is at a stage, and the stage behind it; or why it breaks the file. Each line must be UTF-8.
+-- What a line is at a stage, and the stage after it; or why it breaks the file. Each line must be UTF-8.
 abbrev pub line_at : Name → Stage → List ℕ → Result (Stage × FileLine) FileWhy
 line_at asked s line = if is_utf8 line then (if is_passed line then Ok (s, passed) else staged_line asked s line) else Err Form

@@ -14,7 +14,7 @@ use pts_names::{Name, NameFault};
 use pts_parser::ReadFault;
 use std::alloc::{AllocError, Global};
 
-/// What a line is at a stage of the file of the module with this name, and the stage behind it.
+/// What a line is at a stage of the file of the module with this name, and the stage after it.
 pub(crate) fn line_at(
     alloc: Global,
     asked: &Name,
@@ -75,7 +75,7 @@ fn module_line(asked: &Name, line: &[u8]) -> Result<(Stage, Item), FileLineFault
     Err(FileLineFault::Because(FileWhy::Form))
 }
 
-/// A line that says what is used, or what may stand behind those.
+/// A line that says what is used, or what may follow those.
 #[tactic(auto, using(crate::proofs::Fronts::front_is, crate::proofs::Fronts::back_is))]
 fn uses_line(alloc: Global, line: &[u8], text: &str) -> Result<(Stage, Item), FileLineFault>
     requires { text.now ≡ line.now }

@@ -11,9 +11,9 @@ pub(crate) enum Stage {
     Format,
     /// The line with the module's name.
     Module,
-    /// A line `uses`, or what may stand behind them.
+    /// A line `uses`, or what may follow them.
     Uses,
-    /// A parameter, or what may stand behind them.
+    /// A parameter, or what may follow them.
     Parameters,
     /// A declaration, or `end`.
     Declarations,
@@ -46,7 +46,7 @@ pub(crate) fn may_declare(stage: Stage, declaring: Declaring) -> bool
     }
 }
 
-/// What may come behind a parameter or a declaration.
+/// What may come after a parameter or a declaration.
 pub(crate) fn behind(declaring: Declaring) -> Stage
     ensures { result ≡ lines.behind declaring }
 {

@@ -46,7 +46,7 @@ abbrev pub with_first : ℕ → List (List ℕ) → List (List ℕ)
 with_first c [] = (c ∷ []) ∷ []
 with_first c (part ∷ later) = (c ∷ part) ∷ later
 
--- The parts of a text: the characters before, between and behind its dots.
+-- The parts of a text: the characters before, between and after its dots.
 abbrev pub parts : List ℕ → List (List ℕ)
 parts [] = [] ∷ []
 parts (c ∷ cs) = if c == 46 then [] ∷ parts cs else with_first c (parts cs)
@@ -56,7 +56,7 @@ abbrev pub width : List ℕ → ℕ
 width [] = 0
 width (c ∷ cs) = len_utf8 c + width cs
 
--- The first fault of the parts, of which the first begins at byte `place` and each next one behind a dot.
+-- The first fault of the parts, of which the first begins at byte `place` and each next one after a dot.
 abbrev pub parts_fault : ℕ → List (List ℕ) → Option NameFault
 parts_fault place [] = None
 parts_fault place (part ∷ later) = option_or (identifier_fault place part) (parts_fault (place + width part + 1) later)
@@ -78,7 +78,7 @@ part_count name = length (parts (chars name))
 unfoldable pub is_identifier : List ℕ → Bool
 is_identifier text = is_none (identifier_fault 0 (chars text))
 
--- The name that a binder has where its variable is not used.
+-- The name `_`, which is no plain name. A binder may have it.
 abbrev pub underscore : Name
 underscore = codes "_"
 
@@ -98,7 +98,7 @@ is_quoted (b ∷ bs) = (b == 39) && is_identifier bs
 unfoldable pub is_sort_spelling : List ℕ → Bool
 is_sort_spelling text = same_name text (codes "*") || same_name text (codes "#") || is_quoted text
 
--- What a fault means, unless it is want of memory.
+-- What a fault means, unless memory ran out.
 abbrev pub UnlessMemory : NameFault → Type 0 → Type 0
 UnlessMemory Memory P = Unit {0}
 UnlessMemory Empty P = P

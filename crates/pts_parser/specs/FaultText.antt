@@ -5,7 +5,7 @@ use Rattle.pts_grammar.specs.FaultText.{kind_text}
 use Rattle.pts_parser.specs.declared.fault.ReadFault.{ReadFault}
 use Rattle.pts_parser.specs.declared.fault.ReadFault.TheVariants.{BadChar, LongName, Expected, TooDeep, UnknownName, UnknownSort, Memory}
 
--- That memory lacks is no refusal.
+-- Running out of memory is no refusal.
 abbrev pub read_text : ReadFault → List ℕ
 read_text (BadChar p) = codes "BadChar " ++ decimal p
 read_text (LongName p) = codes "LongName " ++ decimal p

@@ -46,7 +46,7 @@ module _ (sorts : List (List ℕ)) (scope : Name → Option Name) where
   resolved L (pi x A t) = and_then (resolved L A) (λ B. and_then (resolved (x ∷ L) t) (λ u. Ok (named_pi x B u)))
   resolved L (let_in x d A t) = and_then (resolved L d) (λ e. and_then (resolved L A) (λ B. and_then (resolved (x ∷ L) t) (λ u. Ok (named_let x e B u))))
 
--- What a fault means, unless it is want of memory.
+-- What a fault means, unless memory ran out.
 abbrev pub UnlessMemory : ReadFault → Type 0 → Type 0
 UnlessMemory Memory P = Unit {0}
 UnlessMemory (BadChar p) P = P

@@ -14,7 +14,7 @@ pub enum ReadFault {
     BadChar(usize),
     /// The name that begins at this place has more than 128 bytes.
     LongName(usize),
-    /// This kind of token must stand at this place.
+    /// This kind of token must be at this place.
     Expected(usize, Kind),
     /// The parenthesis at this place is open beside 2,000 others; or the term is deeper than 2,000, and the place is the
     /// text's length.

@@ -35,7 +35,7 @@ pub fn resolve<S: Scope>(
     term_at(alloc, tree, system, &mut binders, scope)
 }
 
-/// The term of a tree among these binders, which stand again behind it.
+/// The term of a tree among these binders, which are there again after it.
 #[cycle(term_at)]
 fn term_at<S: Scope>(
     alloc: Global,

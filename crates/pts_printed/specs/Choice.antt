@@ -42,7 +42,7 @@ abbrev pub is_among : Name → List Name → Bool
 is_among x [] = false
 is_among x (y ∷ F) = same_name x y || is_among x F
 
--- The name x with the least number from n on that makes it none of F; `more` numbers are tried, and the one behind them
+-- The name x with the least number from n on that makes it none of F; `more` numbers are tried, and the one after them
 -- is taken as it is. Of as many numbers as F has names, and one more, some number always does.
 abbrev pub numbered : ℕ → (more : ℕ) → Name → List Name → Name
 numbered n zero x F = x ++ decimal n

@@ -31,7 +31,7 @@ abbrev pub occurs_behind : ℕ → List Named → Named → Bool
 occurs_behind k [] statement = occurs k statement
 occurs_behind k (A ∷ types) statement = occurs k A || occurs_behind (suc k) types statement
 
--- Each hypothesis of a goal with whether it occurs behind itself. There are as many names as types.
+-- Each hypothesis of a goal with whether it occurs after itself. There are as many names as types.
 abbrev pub goal_uses : List Name → List Named → (statement : Named) → List (Name × Bool)
 goal_uses [] types statement = []
 goal_uses (x ∷ xs) [] statement = []

@@ -28,7 +28,7 @@ abbrev pub in_parens : Bool → List ℕ → List ℕ
 in_parens true text = codes "(" ++ (text ++ codes ")")
 in_parens false text = text
 
--- A binder with its type and what is behind them, as `x:A. b`.
+-- A binder with its type and what is after them, as `x:A. b`.
 abbrev pub binder_text : List ℕ → List ℕ → List ℕ → List ℕ
 binder_text x type body = x ++ (codes ":" ++ (type ++ (codes ". " ++ body)))
 
@@ -44,12 +44,12 @@ text_of (pi x A B) =
     else (codes "@" ++ binder_text x (text_of A) (text_of B))
 text_of (let_in x d A b) = codes "let " ++ (x ++ (codes " := " ++ (text_of d ++ (codes " : " ++ (text_of A ++ (codes " in " ++ text_of b))))))
 
--- Tokens with `rest` behind them, in parentheses or as they are.
+-- Tokens with `rest` after them, in parentheses or as they are.
 abbrev pub between_parens : Bool → (List Token → List Token) → List Token → List Token
 between_parens true tokens rest = Open ∷ tokens (Close ∷ rest)
 between_parens false tokens rest = tokens rest
 
--- The tokens of a syntax, and `rest` behind them.
+-- The tokens of a syntax, and `rest` after them.
 abbrev pub tokens_before : Syntax → List Token → List Token
 tokens_before (sort p s) rest = Sort s ∷ rest
 tokens_before (name p x) rest = Word x ∷ rest

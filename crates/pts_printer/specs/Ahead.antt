@@ -4,7 +4,7 @@ use Rattle.pts_terms.specs.Tree.{Named, sort, const, var, app, named_lam, named_
 use Rattle.pts_printed.specs.Choice.{occurs}
 use Rattle.pts_printer.specs.Calls.{first_or_false, without_first}
 
--- What is left of a list behind a term.
+-- What is left of a list after a term.
 abbrev pub behind : Named → List Bool → List Bool
 behind (sort s) us = us
 behind (const c) us = us

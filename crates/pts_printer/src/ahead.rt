@@ -38,7 +38,7 @@ impl Ahead {
         Ok(ahead)
     }
 
-    /// Whether the variable of the next binder occurs, which is then behind.
+    /// Whether the variable of the next binder occurs, which is then after.
     #[tactic(auto, using(crate::proofs::Names::reverse_more))]
     pub(crate) fn next(&mut self) -> bool
         ensures used { result ≡ first_or_false self.old }

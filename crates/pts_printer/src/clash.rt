@@ -34,7 +34,7 @@ pub(crate) fn clashes(name: &str, outer: &Outer, term: &Term, first: u64) -> boo
     }
 }
 
-// The same for the body of a binder. Behind 2^32 binders no variable is outer.
+// The same for the body of a binder. After 2^32 binders no variable is outer.
 #[cycle(clashes)]
 #[tactic(auto, using(crate::proofs::Clashing::clashes_beyond))]
 fn clashes_behind(name: &str, outer: &Outer, body: &Boxed<Term>, first: u64) -> bool

@@ -44,7 +44,7 @@ pub(crate) fn hypotheses_at(
     Ok(())
 }
 
-// A hypothesis, as `x : A`, which the later types stand behind.
+// A hypothesis, as `x : A`, after which the later types come.
 fn hypothesis_at(
     alloc: Global,
     system: &System,

@@ -71,7 +71,7 @@ fn add_goal_constants<'a>(
     add_constants(statement, taken)
 }
 
-// Whether the name of a hypothesis is `_` and its variable occurs behind it. Of other names it does not matter.
+// Whether the name of a hypothesis is `_` and its variable occurs after it. Of other names it does not matter.
 fn is_used_behind(name: &Name, types: &[Term], statement: &Term) -> bool
     ensures { result ≡ (same_name name.now underscore && written.occurs_behind 0 (map named types.now) (named statement.now)) }
 {
@@ -81,7 +81,7 @@ fn is_used_behind(name: &Name, types: &[Term], statement: &Term) -> bool
     false
 }
 
-// Whether the variable of a hypothesis occurs in the types behind it or in the statement.
+// Whether the variable of a hypothesis occurs in the types after it or in the statement.
 fn occurs_behind(types: &[Term], statement: &Term) -> bool
     ensures { result ≡ written.occurs_behind 0 (map named types.now) (named statement.now) }
 {

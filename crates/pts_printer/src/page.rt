@@ -30,7 +30,7 @@ impl Page {
         }
     }
 
-    /// This text behind what is written.
+    /// This text after what is written.
     pub(crate) fn write(&mut self, text: &str) -> Result<(), AllocError>
         ensures { OnOk result (self.new ≡ self.old ++ text.now) }
     {

@@ -15,7 +15,7 @@ use std::alloc::{AllocError, Global};
 /// The text of a term over these locals, of which the outermost is the first.
 ///
 /// The printed names of the locals are chosen first, and then those of the binders. A sort that the system has not got,
-/// and an index of no local, are printed as nothing. The only error is want of memory.
+/// and an index of no local, are printed as nothing. The only error is that memory runs out.
 ///
 /// The cost is that of the text, of going through the term once, and for each binder that is written with its name that of
 /// going through its body, and of the names around it where its name needs a number. Calls nest as deep as the term.
@@ -35,10 +35,10 @@ pub fn print_term(
 }
 
 /// The text of a goal: its hypotheses by these names, with their types, and its statement. The outermost is the first, and
-/// a type stands behind the hypotheses before it.
+/// a type comes after the hypotheses before it.
 ///
 /// The printed names of the hypotheses are chosen first, and then those of the binders. A sort that the system has not
-/// got, and an index of no hypothesis, are printed as nothing. The only error is want of memory.
+/// got, and an index of no hypothesis, are printed as nothing. The only error is that memory runs out.
 #[tactic(auto, using(crate::proofs::Joined::goal_joined), unfolding(pts_printed::specs::Locals::printed_goal))]
 pub fn print_goal(
     alloc: Global,

@@ -17,7 +17,7 @@ use pts_names::Text;
 use pts_terms::{Boxed, Sort, Term};
 use std::alloc::{AllocError, Global};
 
-/// Writes a term among these variables, which stand again behind it. Its binders are gone through once before.
+/// Writes a term among these variables, which are there again after it. Its binders are gone through once before.
 pub(crate) fn write_term(
     alloc: Global,
     system: &System,
@@ -32,7 +32,7 @@ pub(crate) fn write_term(
     term_at(alloc, system, page, outer, &mut ahead, term)
 }
 
-// A term with its binders ahead, which are then behind.
+// A term with its binders ahead, which are then after.
 #[cycle(term_at)]
 #[tactic(auto, using(crate::proofs::Joined::let_joined))]
 fn term_at(

@@ -146,7 +146,7 @@ say_as f k l c p = say_of_kind (kind_of f) f k l c p
 abbrev pub say : {B : Type 0} → List (Said B) → Row B → Said B
 say ms l = say_as l.form (length ms) l (look ms l.ctx) (look ms l.first)
 
--- What was said, and behind it what the lines say, in order.
+-- What was said, and after it what the lines say, in order.
 abbrev pub said_behind : {B : Type 0} → List (Said B) → List (Row B) → List (Said B)
 said_behind = values_behind say
 

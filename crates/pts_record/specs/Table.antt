@@ -18,7 +18,7 @@ pub record Tables : Type 0 where
   pub shapes : List Shape
   pub nodes : List Node
 
--- The values of the lines of a table, behind those that are there: each by the values before it.
+-- The values of the lines of a table, after those that are there: each by the values before it.
 abbrev pub values_behind : {A D : Type 0} → (List D → A → D) → List D → List A → List D
 values_behind value ds [] = ds
 values_behind value ds (x ∷ xs) = values_behind value (ds ++ value ds x ∷ []) xs
@@ -209,7 +209,7 @@ kept_node n =
       third = number_in ps 2;
     }
 
--- What a refusal means, unless it is want of memory.
+-- What a refusal means, unless memory ran out.
 abbrev pub UnlessMemory : RecordFault → Type 0 → Type 0
 UnlessMemory Memory P = Unit {0}
 UnlessMemory (Link k) P = P

@@ -225,7 +225,7 @@ impl Record {
         }
     }
 
-    /// Keeps a hint to the line of a term. The tables stay as they are, and so they do for want of memory.
+    /// Keeps a hint to the line of a term. The tables stay as they are, and so they do when memory runs out.
     pub fn note_term(&mut self, number: usize)
         requires { number < length self.old.shapes }
         ensures { self.new ≡ self.old }
@@ -234,7 +234,7 @@ impl Record {
         self.hints.note(self.alloc, key, number);
     }
 
-    /// Keeps a hint to the line of a node. The tables stay as they are, and so they do for want of memory.
+    /// Keeps a hint to the line of a node. The tables stay as they are, and so they do when memory runs out.
     pub fn note_node(&mut self, number: usize)
         requires { number < length self.old.nodes }
         ensures { self.new ≡ self.old }

@@ -93,7 +93,7 @@ pub enum Form {
     CongPi,
 }
 
-/// What a node says: what its local context is, that a term has a type in it, or that two terms are equal in it.
+/// What a node says: what its local context is, that a term has a type in it, or that two terms are convertible in it.
 #[derive(Clone, Copy, Debug, PartialEq, Eq)]
 pub enum FormKind {
     Context,

@@ -11,7 +11,7 @@ use Rattle.pts_reduce.specs.declared.answer.Conversion.{Conversion}
 use Rattle.pts_reduce.specs.declared.answer.Conversion.TheVariants.{Yes, No}
 
 -- Why there was no answer, with b units before and k after it: each outcome costs more than b, and the meter stands at
--- its limit; or the outcome is that something is beyond the limits. Want of memory is free.
+-- its limit; or the outcome is that something is beyond the limits. Running out of memory is free.
 abbrev pub Refused : {O : Type 0} → (O → ℕ → Type 0) → O → ReduceFault → ℕ → ℕ → Type 0
 Refused costs big Spent b k = AboveBudget costs b × (k ≡ 0)
 Refused costs big Deep b k = WithinBudget costs b big k

@@ -17,7 +17,7 @@ abbrev pub same_fault : TermFault → Fault
 same_fault made.TooLarge = Deep
 same_fault made.Memory = Memory
 
--- A fault of work that finds no difference, with k units left: its own work came to the same. Want of memory is free.
+-- A fault of work that finds no difference, with k units left: its own work came to the same. Running out of memory is free.
 abbrev pub PlainFault : {A : Type 0} → Fault → ℕ → Run ⊥ A → Type 0
 PlainFault Memory k r = Unit {0}
 PlainFault Spent k r = (r ≡ spent) × (k ≡ 0)

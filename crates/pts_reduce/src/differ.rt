@@ -1,4 +1,4 @@
-// Differences, which are found deep inside and told from the whole.
+// Differences, which are found deep inside and shown from the whole.
 
 ghost use Rattle.std.specs.Prelude.{◌≡◌, ◌<◌, ℕ, List, length, false};
 ghost use Rattle.pts_record.specs.declared.shape.Shape.{Shape};
@@ -11,7 +11,7 @@ use crate::fault::{Fault, FoundDifference};
 use pts_record::Boxed;
 use std::alloc::Global;
 
-/// A difference of a part, told from the whole.
+/// A difference of a part, shown from the whole.
 #[tactic(auto, using(crate::proofs::Faults::in_part_facts))]
 pub(crate) fn in_part(alloc: Global, fault: Fault, part: u8) -> Fault
     ensures { (ss : List Shape) (k : ℕ) (r : Answer) → TestFault ss fault k r → TestFault ss result k (turned (of_part part) r) }

@@ -65,7 +65,7 @@ const_conditions G l c =
     ∷ (is_that l.claim (option_map (λ e. e.type) (option_and_then (λ x. find x G) (const_in l.subject))), Claim)
     ∷ []
 
--- `var C T U`: U is the entry's type, behind the entry itself and those after it
+-- `var C T U`: U is the entry's type, after the entry itself and those after it
 abbrev pub var_conditions : Plain → (c : Link) → List (Bool × Why)
 var_conditions l c =
     (is_typed_context c, Kind 0)

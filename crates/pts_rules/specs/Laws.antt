@@ -22,7 +22,7 @@ Stands S G (comparison c s t u) = Convertible G s.entries t u
 abbrev pub ValidRecordsAreSound : Type 0
 ValidRecordsAreSound = (S : Specification) (G : Front) (r : Tables) → Legal S G → IsValid S G r → (k : ℕ) → Stands S G (told r k)
 
--- The entry that a valid record over a legal front concludes may stand behind the front, if its name is fresh.
+-- The entry that a valid record over a legal front concludes may follow the front, if its name is fresh.
 abbrev pub ConclusionsAreLegal : Type 0
 ConclusionsAreLegal = (S : Specification) (G : Front) (r : Tables) (e : Global (Unit {0})) → Legal S G → IsValid S G r → Fresh e.name G → concludes r e ≡ true → Legal S (G ++ e ∷ [])
 

@@ -31,7 +31,7 @@ abbrev pub body_of : {B : Type 0} → Option (Global B) → Option (Tree B)
 body_of None = None
 body_of (Some e) = open_body e
 
--- The definition that index i stands for, behind the entry itself.
+-- The definition that index i stands for, after the entry itself.
 abbrev pub definition_at : {B : Type 0} → ℕ → Option (Local B) → Option (Tree B)
 definition_at i None = None
 definition_at i (Some (assumed A)) = None

@@ -18,7 +18,7 @@ abbrev pub or_later : ℕ → Option Why → Option (ℕ × Why) → Option (ℕ
 or_later k None later = later
 or_later k (Some w) later = Some (k, w)
 
--- The least line that is no instance of its form, and its fault, in lines behind what was said.
+-- The least line that is no instance of its form, and its fault, in lines after what was said.
 abbrev pub first_fault_behind : Specification → Front → List Link → List Plain → Option (ℕ × Why)
 first_fault_behind S G ms [] = None
 first_fault_behind S G ms (l ∷ ls) = or_later (length ms) (fault S G ms l) (first_fault_behind S G (ms ++ say ms l ∷ []) ls)

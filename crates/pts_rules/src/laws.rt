@@ -16,7 +16,7 @@ pub fn valid_records_are_sound()
     ensures { ValidRecordsAreSound }
 {}
 
-/// The entry that a valid record over a legal front concludes may stand behind the front, if its name is fresh.
+/// The entry that a valid record over a legal front concludes may follow the front, if its name is fresh.
 #[tactic(auto, using(crate::proofs::Sound::conclusion_legal))]
 pub fn conclusions_are_legal()
     ensures { ConclusionsAreLegal }

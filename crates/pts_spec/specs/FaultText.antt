@@ -4,7 +4,7 @@ use Rattle.pts_ctx.specs.FaultText.{system_text}
 use Rattle.pts_spec.specs.declared.fault.SpecFault.{SpecFault}
 use Rattle.pts_spec.specs.declared.fault.SpecFault.TheVariants.{NotToml, Shape, System, Memory}
 
--- That memory lacks is no refusal.
+-- Running out of memory is no refusal.
 abbrev pub specification_text : SpecFault → List ℕ
 specification_text NotToml = codes "NotToml"
 specification_text (Shape key) = codes "Shape " ++ key

@@ -59,7 +59,7 @@ system_with w = elim (system_fault w) [ Some e ↦ Err (System e) | None ↦ Ok 
 unfoldable pub system_of : List ℕ → Result Specification SpecFault
 system_of bytes = and_then (document_of bytes) (λ document. and_then (spelled_in document) system_with)
 
--- What a fault means, unless it is want of memory.
+-- What a fault means, unless memory ran out.
 abbrev pub UnlessMemory : SpecFault → Type 0 → Type 0
 UnlessMemory Memory P = Unit {0}
 UnlessMemory NotToml P = P

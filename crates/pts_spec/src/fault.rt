@@ -14,7 +14,7 @@ pub enum SpecFault {
     /// This key is the first of `sorts`, `axioms` and `rules` that is missing or holds something else than it should;
     /// or these three are right, and it is the least other key of the document.
     Shape(Text),
-    /// The lists that are written are no system. The fault is never want of memory.
+    /// The lists that are written are no system. The fault is never that memory ran out.
     System(SystemFault),
     /// There was no memory for the system.
     Memory,

@@ -45,7 +45,7 @@ bare (named_let x a A b) = let_in (bare a) (bare A) (bare b)
 abbrev pub lift_index : ℕ → ℕ → ℕ → ℕ
 lift_index k n i = if nat_lt i k then i else (i + n)
 
--- Adds n to each free index that is at least k: the term behind n further binders.
+-- Adds n to each free index that is at least k: the term after n further binders.
 abbrev pub lift : {B : Type 0} → ℕ → ℕ → Tree B → Tree B
 lift k n (sort s) = sort s
 lift k n (const c) = const c

@@ -63,7 +63,7 @@ impl Term {
         }
     }
 
-    // The same as `is_lift_of`. Behind 2^32 binders nothing is raised.
+    // The same as `is_lift_of`. After 2^32 binders nothing is raised.
     #[tactic(auto, using(crate::proofs::Indices::same_lift_beyond))]
     fn is_raised(&self, other: &Term, from: u64, by: u64) -> bool
         requires by { by < 4294967296 }
@@ -96,7 +96,7 @@ impl Term {
         }
     }
 
-    // The same as `is_subst_of`, behind the binders that were passed. No index is replaced behind 2^32 of them.
+    // The same as `is_subst_of`, after the binders that were passed. No index is replaced after 2^32 of them.
     #[tactic(auto, using(crate::proofs::Indices::same_put_beyond))]
     fn is_put(&self, body: &Term, index: u64, passed: u64, argument: &Term) -> bool
         requires { passed ≤ index }

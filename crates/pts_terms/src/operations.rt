@@ -38,7 +38,7 @@ impl Term {
         self.raised(alloc, u64::from(from), by)
     }
 
-    // The same. Behind 2^32 binders nothing is raised.
+    // The same. After 2^32 binders nothing is raised.
     #[cycle(raised)]
     #[tactic(auto, using(crate::proofs::Indices::lift_beyond))]
     fn raised(&self, alloc: Global, from: u64, by: u32) -> Result<Term, AllocError>
@@ -122,7 +122,7 @@ impl Term {
         Ok(self.with_const(alloc, name, by)?)
     }
 
-    // The result of `subst`, behind the binders that were passed. No index is replaced behind 2^32 of them.
+    // The result of `subst`, after the binders that were passed. No index is replaced after 2^32 of them.
     #[cycle(substituted)]
     #[tactic(auto, using(crate::proofs::Indices::put_beyond))]
     fn substituted(
@@ -234,7 +234,7 @@ fn substituted_part(
     Ok(Boxed::new(alloc, changed)?)
 }
 
-// The same behind one more binder.
+// The same after one more binder.
 #[cycle(substituted)]
 fn substituted_body(
     alloc: Global,
@@ -290,7 +290,7 @@ fn raised_part(
     Ok(Boxed::new(alloc, raised)?)
 }
 
-// The same behind one more binder.
+// The same after one more binder.
 #[cycle(raised)]
 fn raised_body(
     alloc: Global,

@@ -142,7 +142,7 @@ impl Term {
     }
 }
 
-// Behind one more binder.
+// After one more binder.
 #[cycle(depth_put)]
 fn depth_put_body(body: &Boxed<Term>, index: u64, passed: u64, argument: &Term, depth: u64) -> u64
     requires index { index < 4294967296 }

@@ -6,7 +6,7 @@ use Rattle.pts_tokens.specs.declared.fault.TokenFault.TheVariants.{BadChar, Long
 use Rattle.pts_tokens.specs.declared.token.Token.{Token}
 use Rattle.pts_tokens.specs.Tokens.{word, begins_identifier, First, blank, token, long_name, no_token}
 
--- What a fault means, unless it is want of memory.
+-- What a fault means, unless memory ran out.
 abbrev pub UnlessMemory : TokenFault → Type 0 → Type 0
 UnlessMemory Memory P = Unit {0}
 UnlessMemory (BadChar place) P = P

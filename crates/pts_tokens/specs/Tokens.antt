@@ -25,7 +25,7 @@ abbrev pub begins_identifier : List ℕ → Bool
 begins_identifier cs = is_none (identifier_fault 0 (word cs))
 
 -- The further parts of a name whose present part has n more characters here. An identifier is a further part where it
--- stands directly behind a dot that stands directly behind the part before.
+-- stands directly after a dot that stands directly after the part before.
 abbrev pub further : ℕ → List ℕ → List (List ℕ)
 further n [] = []
 further (suc n) (c ∷ cs) = further n cs
@@ -58,7 +58,7 @@ worded cs = if same_name (word cs) (codes "let") then token Let (word cs) else (
 abbrev pub number : List ℕ → First
 number ds = token (Number (encodes ds)) ds
 
--- A sort: one sign, or a quote and the word behind it.
+-- A sort: one sign, or a quote and the word after it.
 abbrev pub sort_text : ℕ → List ℕ → List ℕ
 sort_text c cs = if c == 39 then 39 ∷ word cs else c ∷ []
 
@@ -81,7 +81,7 @@ abbrev pub begins_with : ℕ → List ℕ → Bool
 begins_with c [] = false
 begins_with c (d ∷ ds) = d == c
 
--- `:` and `:=`, and `->`, by the characters behind the first.
+-- `:` and `:=`, and `->`, by the characters after the first.
 abbrev pub colon : List ℕ → First
 colon cs = if begins_with 61 cs then token Assign (codes ":=") else token Colon (codes ":")
 
@@ -117,14 +117,14 @@ abbrev pub with_spot : Spot → Result (List Spot) TokenFault → Result (List S
 with_spot s (Ok ts) = Ok (s ∷ ts)
 with_spot s (Err e) = Err e
 
--- The tokens of a text from byte `place` on that begins so, given those behind so many characters after its first.
+-- The tokens of a text from byte `place` on that begins so, given those after so many characters after its first.
 abbrev pub from_first : ℕ → First → (ℕ → Result (List Spot) TokenFault) → Result (List Spot) TokenFault
 from_first place blank behind = behind 0
 from_first place (token t w) behind = with_spot (place, t) (behind (pred (length w)))
 from_first place long_name behind = Err (LongName place)
 from_first place no_token behind = Err (BadChar place)
 
--- The tokens of the text from byte `place` on, behind its first n characters, which belong to an earlier token.
+-- The tokens of the text from byte `place` on, after its first n characters, which belong to an earlier token.
 abbrev pub tokens_behind : ℕ → ℕ → List ℕ → Result (List Spot) TokenFault
 tokens_behind n place [] = Ok []
 tokens_behind (suc n) place (c ∷ cs) = tokens_behind n (place + len_utf8 c) cs

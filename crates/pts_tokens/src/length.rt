@@ -53,7 +53,7 @@ pub(crate) fn name_length(text: &str) -> usize
     length
 }
 
-/// How many bytes a dot and the identifier directly behind it take, where the text begins so.
+/// How many bytes a dot and the identifier directly after it take, where the text begins so.
 fn part_length(text: &str) -> Option<usize>
     ensures { result ≡ part_size (chars text.now) }
 {
@@ -65,7 +65,7 @@ fn part_length(text: &str) -> Option<usize>
     Some(length + 1)
 }
 
-/// How many bytes the longest text takes that may spell a sort, from the sign `first` on. `behind` is what follows.
+/// How many bytes the longest text takes that may spell a sort, from the sign `first` on. `after` is what follows.
 pub(crate) fn sort_length(first: char, behind: &str) -> usize
     requires sign { first < 128 }
     requires fits { length behind.now < usize.MAX }

@@ -5,8 +5,8 @@ ghost use Rattle.pts_tokens.specs.Calls.{sized};
 
 use crate::token::Token;
 
-/// The sign with which a text begins whose first character is `first`, and how many bytes it takes. `behind` is the
-/// text behind that character.
+/// The sign with which a text begins whose first character is `first`, and how many bytes it takes. `after` is the
+/// text after that character.
 pub(crate) fn sign(first: char, behind: &str) -> Option<(Token, usize)>
     ensures { result ≡ sized (text.sign first (chars behind.now)) }
 {

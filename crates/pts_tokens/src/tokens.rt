@@ -19,7 +19,7 @@ use std::alloc::Global;
 /// # Errors
 ///
 /// The first place at which no token begins is answered: `LongName` where a name of more than 128 bytes begins there,
-/// else `BadChar`. A quote is no token without an identifier behind it, nor is `-` without `>`.
+/// else `BadChar`. A quote is no token without an identifier after it, nor is `-` without `>`.
 pub fn read_tokens(
     alloc: Global,
     text: &str,
@@ -46,7 +46,7 @@ pub fn read_tokens(
     Ok(found)
 }
 
-/// The first character of the text, and the text behind it.
+/// The first character of the text, and the text after it.
 fn first_char(text: &str) -> Option<(char, &str)>
     ensures { MatchOption result (text.now ≡ []) (λ p. text.now ≡ encode p.0 ++ p.1.now) }
 {
@@ -70,7 +70,7 @@ fn begins_sort(ch: char) -> bool
 }
 
 /// The token with which the text begins, and how many bytes it takes. The text stands at byte `place`; its first
-/// character is `first`, and `behind` follows.
+/// character is `first`, and `after` follows.
 fn token_at(
     alloc: Global,
     text: &str,

@@ -54,7 +54,7 @@ pub(crate) fn number_token(alloc: Global, text: &str) -> Result<(Token, usize), 
 }
 
 /// The sort with which the text begins, and how many bytes it takes. The text stands at byte `place`; its first
-/// character is the sign `first`, and `behind` follows.
+/// character is the sign `first`, and `after` follows.
 pub(crate) fn sort_token(
     alloc: Global,
     text: &str,
