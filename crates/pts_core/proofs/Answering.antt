@@ -20,5 +20,5 @@ answered S event F G h k a legal later room number same left shown = record {
 }
 
 -- No one else has asked.
-pub at_once : (s : ℕ) (h : List Past) (holds : List Past → Type 0) → holds h → AfterOthers s h holds
-at_once s h holds p = record { others = []; of_others = tt; met = subst holds (sym (append-nil h)) p }
+pub at_once : (s : ℕ) (may_come : List Past → Type 0) (h : List Past) (holds : List Past → Type 0) → may_come [] → holds h → AfterOthers s may_come h holds
+at_once s may_come h holds m p = record { others = []; of_others = tt; allowed = m; met = subst holds (sym (append-nil h)) p }

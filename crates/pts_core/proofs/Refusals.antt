@@ -12,7 +12,7 @@ use Rattle.pts_core.specs.declared.finding.Finding.TheVariants as finding
 use Rattle.pts_core.specs.declared.reply.Reply.{Reply}
 use Rattle.pts_core.specs.declared.reply.Reply.TheVariants as reply
 use Rattle.pts_core.specs.declared.obstacle.Obstacle.TheVariants.{Faulty, Loaded, Clash, Full}
-use Rattle.pts_core.specs.Replies.{LabelledFront, faulty_reply, loaded_reply, clash_reply, full_reply, first_clash, refusal_reply, reply_to}
+use Rattle.pts_core.specs.Replies.{LabelledFront, name_at, faulty_reply, loaded_reply, clash_reply, full_reply, first_clash, refusal_reply, reply_to}
 use Rattle.pts_core.specs.Histories.{left_by}
 use Rattle.pts_core.specs.Ports.{handed_on}
 use Rattle.pts_core.specs.Cores.{SeenExamined}
@@ -28,6 +28,12 @@ pub at_number : {A B : Type 0} (f : A → B) (xs : List A) (k : ℕ) → k < len
 at_number f [] k h = absurd (omega (arith, h))
 at_number f (x ∷ xs) zero h = refl
 at_number f (x ∷ xs) (suc k) h = at_number f xs k (omega (arith, h))
+
+-- The entry with a number has its name.
+named : (f : Name → Reply) (es : List (Global Name)) (k : ℕ) → k < length es → option_map (λ e. f e.name) (slice_get es k) ≡ Some (f (name_at es k))
+named f [] k h = absurd (omega (arith, h))
+named f (e ∷ es) zero h = refl
+named f (e ∷ es) (suc k) h = named f es k (omega (arith, h))
 
 not_faulty : (es : List (Global Name)) (f : Finding) → IsFaultless f → faulty_reply es f ≡ None
 not_faulty es finding.Sound j = refl
@@ -59,7 +65,7 @@ module _ (F : LabelledFront) (es : List (Global Name)) (label : Option Name) whe
 
   pub faulty_is_first : (f : Finding) (k n : ℕ) (w : Why) → f ≡ finding.Faulty k n w → k < length es → obstacle_reply es label (Faulty k n w) ≡ refusal_reply F es label f
   unfolding refusal_reply
-  faulty_is_first f k n w e h = first_is (faulty_reply es (finding.Faulty k n w)) _ (at_number (λ d. reply.Faulty d.name n w) es k h) ∙ ap (refusal_reply F es label) (sym e)
+  faulty_is_first f k n w e h = named (λ x. reply.Faulty x n w) es k h ∙ ap (refusal_reply F es label) (sym e)
 
   faultless : (f : Finding) → IsFaultless f → refusal_reply F es label f ≡ option_or (loaded_reply F.labels label) after_label
   unfolding refusal_reply
@@ -75,7 +81,7 @@ module _ (F : LabelledFront) (es : List (Global Name)) (label : Option Name) whe
 
   pub clash_is_first : (f : Finding) (k p : ℕ) → IsFaultless f → option_and_then (λ l. label_place l F.labels) label ≡ None → first_clash F.entries es ≡ Some (k, p) → k < length es → obstacle_reply es label (Clash k p) ≡ refusal_reply F es label f
   clash_is_first f k p j s c h =
-      first_is (obstacle_reply es label (Clash k p)) after_clash (at_number (λ d. reply.Clash d.name p) es k h)
+      named (λ x. reply.Clash x p) es k h
       ∙ (sym (ap (λ o. option_or (clash_reply es o) after_clash) c) ∙ sym (unlabelled f j (label_new F.labels label s)))
 
   left_over : (f : Finding) → IsFaultless f → loaded_reply F.labels label ≡ None → first_clash F.entries es ≡ None → refusal_reply F es label f ≡ after_clash
@@ -133,7 +139,7 @@ first_of (Some r) q h k = h
 faulty_refused : (es : List (Global Name)) (f : Finding) → IfSome (faulty_reply es f) IsRefused
 faulty_refused es finding.Sound = tt
 faulty_refused es (finding.Doubled k) = tt
-faulty_refused es (finding.Faulty k n w) = mapped (slice_get es k) (λ e. reply.Faulty e.name n w) (λ e. tt)
+faulty_refused es (finding.Faulty k n w) = tt
 
 loaded_refused : (labels : List (Name × ℕ)) (o : Option Name) → IfSome (loaded_reply labels o) IsRefused
 loaded_refused labels None = tt
@@ -141,7 +147,7 @@ loaded_refused labels (Some l) = mapped (label_place l labels) (λ p. reply.Load
 
 clash_refused : (es : List (Global Name)) (o : Option (ℕ × ℕ)) → IfSome (clash_reply es o) IsRefused
 clash_refused es None = tt
-clash_refused es (Some c) = mapped (slice_get es c.0) (λ e. reply.Clash e.name c.1) (λ e. tt)
+clash_refused es (Some c) = tt
 
 full_refused : (b : Bool) (n : ℕ) → IfSome (if b then None else Some (reply.ContextFull n)) IsRefused
 full_refused true n = tt

@@ -37,8 +37,9 @@ IsNoAnswer Memory h k = k ≡ h
 abbrev pub OfOthers : ℕ → List Past → Type 0
 OfOthers s h = AllByRecursion (λ e. e.session ≢ s) h
 
--- The history goes on with events of other sessions than s, and of what it is then this holds.
-pub record AfterOthers (s : ℕ) (h : List Past) (holds : List Past → Type 0) : Type 0 where
+-- The history goes on with events of other sessions than s, of which these may come, and of what it is then this holds.
+pub record AfterOthers (s : ℕ) (may_come : List Past → Type 0) (h : List Past) (holds : List Past → Type 0) : Type 0 where
   pub others : List Past
   pub of_others : OfOthers s others
+  pub allowed : may_come others
   pub met : holds (h ++ others)

@@ -27,11 +27,15 @@ clash_from G k (e ∷ es) = or_taken k (place_of e.name G) (clash_from (G ++ e �
 unfoldable pub first_clash : List (Global Name) → List (Global Name) → Option (ℕ × ℕ)
 first_clash G es = clash_from G 0 es
 
--- The refusals, each where there is cause for it. The name is that of the entry with the number.
+-- The name of the entry with the number, which is empty where there is none.
+abbrev pub name_at : List (Global Name) → ℕ → Name
+name_at es k = unwrap_or (option_map (λ e. e.name) (slice_get es k)) []
+
+-- The refusals, each where there is cause for it.
 abbrev pub faulty_reply : List (Global Name) → Finding → Option Reply
 faulty_reply es finding.Sound = None
 faulty_reply es (finding.Doubled k) = None
-faulty_reply es (finding.Faulty k node why) = option_map (λ e. Faulty e.name node why) (slice_get es k)
+faulty_reply es (finding.Faulty k node why) = Some (Faulty (name_at es k) node why)
 
 abbrev pub loaded_reply : List (Name × ℕ) → Option Name → Option Reply
 loaded_reply labels None = None
@@ -39,7 +43,7 @@ loaded_reply labels (Some l) = option_map (λ place. Loaded l place) (label_plac
 
 abbrev pub clash_reply : List (Global Name) → Option (ℕ × ℕ) → Option Reply
 clash_reply es None = None
-clash_reply es (Some clash) = option_map (λ e. Clash e.name clash.1) (slice_get es clash.0)
+clash_reply es (Some clash) = Some (Clash (name_at es clash.0) clash.1)
 
 -- A core has at most 200,000 entries.
 abbrev pub full_reply : ℕ → ℕ → Option Reply

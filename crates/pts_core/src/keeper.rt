@@ -137,8 +137,9 @@ impl Core {
         self.history.reserve(1)
     }
 
-    /// The event happens. It takes no memory, and what it costs does not depend on the front, on the history, or on the size of
-    /// the offered terms, but where an offer is refused and they are given back.
+    /// The event happens. It takes no memory. What it costs does not depend on the history, nor on the front but for the few
+    /// indices in which a name is looked up, nor on the size of the offered terms but where an offer is refused and they are
+    /// given back.
     pub fn step(&mut self, event: Event) -> Reply
         requires may { MayHappen event self.old }
         ensures system { self.new.system ≡ self.old.system }

@@ -26,4 +26,8 @@ pub use keeper::{Core, EVENTS};
 pub use laws::{earlier_fronts_are_legal, fronts_stay, histories_grow, sound_offers_enter};
 pub use offer::{Offer, Template};
 pub use port::{Answer, CorePort, Port, PortFault, Receipt};
+pub use pts_ctx::{Context, Entry, System};
+pub use pts_names::{List, Name};
+pub use pts_record::Declaration;
+pub use pts_rules::Why;
 pub use reply::Reply;

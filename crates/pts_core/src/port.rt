@@ -47,7 +47,7 @@ impl From<AllocError> for PortFault {
 }
 
 /// The way on which one session asks a core, which may be one that others ask too. A call is one event of its session, and events
-/// of other sessions may come before it.
+/// of other sessions may come before it, those that `may_come` allows.
 pub trait Port {
     // The core's system, the number of the session, and the history as the session has seen it, whose replay is the front.
     ghost system: { Self → Specification };
@@ -55,6 +55,9 @@ pub trait Port {
     ghost session: { Self → ℕ };
 
     ghost history: { Self → List Past };
+
+    // Which events of other sessions may come before that of a call.
+    ghost may_come: { Self → List Past → Type 0 };
 
     // What a port needs to be asked, beside what the calls require.
     ghost ready: { Self → Type 0 };
@@ -78,8 +81,8 @@ pub trait Port {
         ensures held { held self.new ≡ held self.old }
         ensures system { system self.new ≡ system self.old }
         ensures session { session self.new ≡ session self.old }
-        ensures answered { IfOk result (λ a. AfterOthers (session self.old) (history self.old) (λ h. IsAnswer (look (session self.old)) h (history self.new) a)) }
-        ensures refused { IfErr result (λ e. AfterOthers (session self.old) (history self.old) (λ h. IsNoAnswer e h (history self.new))) };
+        ensures answered { IfOk result (λ a. AfterOthers (session self.old) (may_come self.old) (history self.old) (λ h. IsAnswer (look (session self.old)) h (history self.new) a)) }
+        ensures refused { IfErr result (λ e. AfterOthers (session self.old) (may_come self.old) (history self.old) (λ h. IsNoAnswer e h (history self.new))) };
 
     /// Asks that what was examined enters. It was examined in the core's system, over a front of the core.
     ///
@@ -94,11 +97,11 @@ pub trait Port {
         ensures held { held self.new ≡ held self.old }
         ensures system { system self.new ≡ system self.old }
         ensures session { session self.new ≡ session self.old }
-        ensures answered { IfOk result (λ a. AfterOthers (session self.old) (history self.old) (λ h. IsAnswer (submitted (session self.old) examined) h (history self.new) a)) }
-        ensures refused { IfErr result (λ e. AfterOthers (session self.old) (history self.old) (λ h. IsNoAnswer e h (history self.new))) };
+        ensures answered { IfOk result (λ a. AfterOthers (session self.old) (may_come self.old) (history self.old) (λ h. IsAnswer (submitted (session self.old) examined) h (history self.new) a)) }
+        ensures refused { IfErr result (λ e. AfterOthers (session self.old) (may_come self.old) (history self.old) (λ h. IsNoAnswer e h (history self.new))) };
 }
 
-/// The port to a core that is at hand, so that no one else asks it meanwhile.
+/// The port to a core that is at hand, so that no one else asks it meanwhile: a call is one step of the core.
 #[derive(Drop)]
 pub struct CorePort<'a> {
     pub core: &'a mut Core,
@@ -106,13 +109,15 @@ pub struct CorePort<'a> {
 }
 
 impl<'a> Port for CorePort<'a> {
-    ghost use Rattle.std.specs.Prelude.{⊤};
+    ghost use Rattle.std.specs.Prelude.{◌≡◌, ⊤, []};
 
     ghost system = { λ p. p.core.now.system };
 
     ghost session = { λ p. p.session };
 
     ghost history = { λ p. p.core.now.history };
+
+    ghost may_come = { λ p others. others ≡ [] };
 
     ghost ready = { λ p. ⊤ };
 
