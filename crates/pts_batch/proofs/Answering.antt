@@ -1,5 +1,5 @@
 -- What a batch answers.
-use Rattle.std.proofs.Common.{◌≡◌, ℕ, ◌+◌, ◌≤◌, List, [], ◌++◌, map, refl, sym, ap, ◌∙◌, subst, arith, Some, None, Result, Ok, Err, IfOk, OnOk}
+use Rattle.std.proofs.Common.{◌≡◌, ℕ, ◌+◌, ◌≤◌, List, [], ◌++◌, map, sym, ap, ◌∙◌, subst, arith, Some, None, Result, Ok, Err, IfOk}
 use Rattle.std.specs.Prelude.{codes}
 use Rattle.std.specs.Fmt.{decimal}
 use Rattle.pts_names.specs.Name.{Name}
@@ -14,13 +14,9 @@ use Rattle.pts_module_file.specs.declared.file.ModuleFile.{ModuleFile}
 use Rattle.pts_module_file.specs.declared.fault.FileFault.{FileFault}
 use Rattle.pts_module_file.specs.File.{File, module_file_of, module_of, RefusesModule}
 use Rattle.pts_infer.specs.declared.answer.InferFault.TheVariants as infer
-use Rattle.pts_parser.specs.declared.fault.ReadFault.{ReadFault}
-use Rattle.pts_parser.specs.declared.fault.ReadFault.TheVariants as read
-use Rattle.pts_parser.specs.Resolution.{UnlessMemory}
-use Rattle.pts_declare.specs.declared.fault.DeclareFault.TheVariants.{Infer}
+use Rattle.pts_declare.specs.declared.fault.DeclareFault.TheVariants as declare
 use Rattle.pts_statement.specs.declared.fault.StatementFault.{StatementFault}
 use Rattle.pts_statement.specs.declared.fault.StatementFault.TheVariants.{Read, Taken, Declare, Memory}
-use Rattle.pts_statement.specs.Refusals.{IsRefusal}
 use Rattle.pts_statement.specs.Words.{fault_text}
 use Rattle.pts_batch.specs.declared.world.Batch.{Batch}
 use Rattle.pts_batch.specs.Loading.{Loaded, entered, Loads}
@@ -36,10 +32,6 @@ use Rattle.pts_batch.proofs.Short.{statements_seen}
 pub both_ok : {T E : Type 0} (r : Result T E) (P Q R : T → Type 0) → ((x : T) → P x → Q x → R x) → IfOk r P → IfOk r Q → IfOk r R
 both_ok (Ok x) P Q R f p q = f x p q
 both_ok (Err e) P Q R f p q = tt
-
-pub ok_with : {T E : Type 0} (r : Result T E) (P : Type 0) (Q : T → Type 0) → OnOk r P → IfOk r Q → IfOk r (λ x. P × Q x)
-ok_with (Ok x) P Q p q = (p, q)
-ok_with (Err e) P Q p q = tt
 
 pub nothing_entered : (S : Specification) (r : Batch) → r.declarations ≡ [] → r.context.entries ≡ [] → Evident S r
 nothing_entered S r d e = record {
@@ -63,15 +55,6 @@ pub all_evident : {E : Type 0} (S : Specification) (r : Result Batch E) → IfOk
 all_evident S (Ok x) e m = all_entered S x e m
 all_evident S (Err f) e m = tt
 
-as_read : (e : ReadFault) (P : Type 0) → ¬ (e ≡ read.Memory) → UnlessMemory e P → P
-as_read (read.BadChar p) P m h = h
-as_read (read.LongName p) P m h = h
-as_read (read.Expected p k) P m h = h
-as_read (read.TooDeep p) P m h = h
-as_read (read.UnknownName p x) P m h = h
-as_read (read.UnknownSort p w) P m h = h
-as_read read.Memory P m h = absurd (m refl)
-
 module _ (S : Specification) (M : Name) (bytes : List ℕ) (b : ℕ) (a : BatchAnswer) (u : ℕ) where
   pub bad_file_answer : (e : FileFault) → RefusesModule M bytes e → AnswersBadFile M e a → u ≡ 0 → BatchAnswers S M bytes b a u
   bad_file_answer (FileFault.BadFile n w) r q z = (bad_file n w, (b, file_is_bad r, omega (arith, z)), q)
@@ -89,17 +72,18 @@ module _ (S : Specification) (M : Name) (bytes : List ℕ) (b : ℕ) (a : BatchA
   stopped_so : (m : ModuleFile) (o : Loaded) (k : ℕ) → module_of M bytes ≡ Ok (module_file_of m) → unbuilt_line (module_file_of m) ≡ None → Loads S M [] (map numbered m.declarations.items) b o k → u + k ≡ b → a ≡ answer_loaded S.sorts M o → BatchAnswers S M bytes b a u
   stopped_so m o k e l h v q = (loaded o, (k, loaded_so m o k e l h, v), q)
 
-  refused_at : (m : ModuleFile) (n : ℕ) (t : StatementFault) (k : ℕ) → module_of M bytes ≡ Ok (module_file_of m) → unbuilt_line (module_file_of m) ≡ None → RefusedAt (Loads S M [] (map numbered m.declarations.items)) b k n t → u + k ≡ b → IsRefusal t → a ≡ refusal M (at_line n (fault_text S.sorts t)) → BatchAnswers S M bytes b a u
-  refused_at m n (Read x) k e l h v r q = stopped_so m _ k e l (as_read x _ r h) v q
-  refused_at m n (Taken x p) k e l h v r q = stopped_so m _ k e l h v q
-  refused_at m n (Declare (Infer part (infer.Flaw f))) k e l h v r q = stopped_so m _ k e l h v q
-  refused_at m n (Declare (Infer part infer.Spent)) k e l h v r q = stopped_so m _ k e l h v q
-  refused_at m n (Declare (Infer part infer.Deep)) k e l h v r q = stopped_so m _ k e l h v q
-  refused_at m n (Declare (Infer part infer.Memory)) k e l h v r q = absurd (r refl)
-  refused_at m n Memory k e l h v r q = absurd r
+  refused_at : (m : ModuleFile) (n : ℕ) (t : StatementFault) (k : ℕ) → module_of M bytes ≡ Ok (module_file_of m) → unbuilt_line (module_file_of m) ≡ None → RefusedAt (Loads S M [] (map numbered m.declarations.items)) b k n t → u + k ≡ b → a ≡ refusal M (at_line n (fault_text S.sorts t)) → BatchAnswers S M bytes b a u
+  refused_at m n (Read x) k e l h v q = stopped_so m _ k e l h v q
+  refused_at m n (Taken x p) k e l h v q = stopped_so m _ k e l h v q
+  refused_at m n (Declare (declare.Infer part (infer.Flaw f))) k e l h v q = stopped_so m _ k e l h v q
+  refused_at m n (Declare (declare.Infer part infer.Spent)) k e l h v q = stopped_so m _ k e l h v q
+  refused_at m n (Declare (declare.Infer part infer.Deep)) k e l h v q = stopped_so m _ k e l h v q
+  refused_at m n (Declare (declare.Infer part infer.Memory)) k e l h v q = absurd h
+  refused_at m n (Declare declare.Memory) k e l h v q = absurd h
+  refused_at m n Memory k e l h v q = absurd h
 
   pub fault_answer : (m : ModuleFile) (t : LoadFault) (k : ℕ) → module_of M bytes ≡ Ok (module_file_of m) → unbuilt_line (module_file_of m) ≡ None → Stops (Loads S M [] (map numbered m.declarations.items)) b k t → u + k ≡ b → AnswersFault S.sorts M t a → BatchAnswers S M bytes b a u
-  fault_answer m (load.Refused n t) k e l h v (r, q) = refused_at m n t k e l h v r q
+  fault_answer m (load.Refused n t) k e l h v q = refused_at m n t k e l h v q
   fault_answer m load.Memory k e l h v q = absurd q
 
 new_left : (m : Units) (b : ℕ) → m ≡ record { limit = b; spent = 0 } → left m ≡ b

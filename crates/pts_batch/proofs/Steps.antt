@@ -14,7 +14,8 @@ use Rattle.pts_statement.specs.Declaring.{Declares}
 use Rattle.pts_statement.specs.Refusals.{RefusesStatement}
 use Rattle.pts_batch.specs.Loading.{Loaded, entered, Loads, no_statement}
 use Rattle.pts_batch.specs.Evidence.{numbered, statement_of}
-use Rattle.pts_batch.specs.Calls.{RefusedAt}
+use Rattle.pts_batch.specs.declared.loading.LoadFault.{LoadFault}
+use Rattle.pts_batch.specs.Calls.{Stops, fault_at}
 use Rattle.pts_check.proofs.Entering.{follow_more}
 use Rattle.pts_batch.proofs.Follow.{goes_on, ends_at, passed_on}
 
@@ -23,8 +24,9 @@ module _ (S : Specification) (M : Name) (all : ℕ → Loaded → ℕ → Type 0
   pub step_kept : (x : ℕ × ModuleLine) (rest : List (ℕ × ModuleLine)) → ls ≡ x ∷ rest → (H : Globals) (r : Declaration) (j : ℕ) → WithinBudget (Declares S M G (statement_of x.1)) b (comes (declared r)) j → H ≡ G ++ declared r ∷ [] → (o : Loaded) (k : ℕ) → Loads S M H (map numbered rest) j o k → all c o k
   step_kept x rest p H r j w e o k l = f o k (subst (λ zs. Loads S M G (map numbered zs) b o k) (sym p) (goes_on S M G x.0 (statement_of x.1) (map numbered rest) b H r j w e o k l))
 
-  pub step_stops : (x : ℕ × ModuleLine) (rest : List (ℕ × ModuleLine)) → ls ≡ x ∷ rest → (e : StatementFault) (k : ℕ) → RefusesStatement S M G (statement_of x.1) e b k → RefusedAt all c k x.0 e
-  step_stops x rest p e k h = passed_on e c b k x.0 (λ d o j. Loads S M G (numbered x ∷ map numbered rest) d o j) all (λ o j l. f o j (subst (λ zs. Loads S M G (map numbered zs) b o j) (sym p) l)) (ends_at S M G x.0 (statement_of x.1) (map numbered rest) b e k h)
+  pub step_stops : (x : ℕ × ModuleLine) (rest : List (ℕ × ModuleLine)) → ls ≡ x ∷ rest → (e : StatementFault) (t : LoadFault) (k : ℕ) → t ≡ fault_at x.0 e → RefusesStatement S M G (statement_of x.1) e b k → Stops all c k t
+  step_stops x rest p e t k q h =
+      subst (Stops all c k) (sym q) (passed_on (fault_at x.0 e) c b k (λ d o j. Loads S M G (numbered x ∷ map numbered rest) d o j) all (λ o j l. f o j (subst (λ zs. Loads S M G (map numbered zs) b o j) (sym p) l)) (ends_at S M G x.0 (statement_of x.1) (map numbered rest) b e k h))
 
   pub end_kept : ls ≡ [] → all c (entered G) b
   end_kept p = f (entered G) b (subst (λ zs. Loads S M G (map numbered zs) b (entered G) b) (sym p) no_statement)

@@ -1,11 +1,10 @@
 // Batches of one module.
 
-ghost use Rattle.std.specs.Prelude.{◌≡◌, true, ◌+◌, ◌++◌, ◌∷◌, [], Ok, None, IfOk, OnOk, codes};
+ghost use Rattle.std.specs.Prelude.{◌≡◌, true, ◌+◌, ◌++◌, ◌∷◌, [], Ok, None, IfOk, codes};
 ghost use Rattle.std.specs.Fmt.{decimal};
 ghost use Rattle.pts_check.specs.Entered.{declared_entries, MayFollow};
 ghost use Rattle.pts_module_file.specs.File.{AllShort, module_file_of, module_of};
 ghost use Rattle.pts_names.specs.Name.{is_short};
-ghost use Rattle.pts_statement.specs.Refusals.{IsRefusal};
 ghost use Rattle.pts_statement.specs.Words.{fault_text};
 ghost use Rattle.pts_batch.specs.Batches.{BatchAnswers, refusal, bad_line, at_line, unbuilt_line, with_entries};
 ghost use Rattle.pts_batch.specs.Calls.{AnswersBadFile, AnswersFault};
@@ -203,7 +202,6 @@ fn refused_line(
     fault: &StatementFault,
     units: u64,
 ) -> Result<Batch, AllocError>
-    ensures refusal { OnOk result (IsRefusal fault.now) }
     ensures answer { IfOk result (λ r. answer_seen r ≡ refusal name.now (at_line line (fault_text system.now.sorts fault.now))) }
     ensures units { IfOk result (λ r. r.units ≡ units) }
     ensures evidence { IfOk result (λ r. (r.declarations ≡ []) × (r.context.entries ≡ [])) }

@@ -11,4 +11,7 @@ mod world;
 
 pub use answer::batch;
 pub use laws::modules_have_one_answer;
+pub use pts_ctx::{Context, System};
+pub use pts_names::{List, Name, Text};
+pub use pts_record::Declaration;
 pub use world::{Batch, World};

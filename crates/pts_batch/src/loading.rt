@@ -15,7 +15,7 @@ ghost use Rattle.pts_statement.specs.Declaring.{Declares};
 ghost use Rattle.pts_statement.specs.Refusals.{RefusesStatement};
 ghost use Rattle.pts_batch.specs.Evidence.{statement_of, numbered, AllDeclarable};
 ghost use Rattle.pts_batch.specs.Loading.{Loads, entered};
-ghost use Rattle.pts_batch.specs.Calls.{Stops};
+ghost use Rattle.pts_batch.specs.Calls.{Stops, fault_at};
 
 use pts_ctx::{Context, Entry, System};
 use pts_module_file::ModuleLine;
@@ -55,7 +55,7 @@ impl From<AllocError> for LoadFault {
 ///
 /// # Errors
 ///
-/// `Refused` with the first line whose statement is refused, and its fault, which may be that there is no memory. `Memory`.
+/// `Refused` with the first line whose statement is refused, and its fault. `Memory`.
 pub fn load(
     alloc: Global,
     system: &System,
@@ -77,10 +77,20 @@ pub fn load(
     while let Some(line) = rest.next() {
         match loading.add(alloc, system, label, &line.1, meter) {
             Ok(()) => drop(line),
-            Err(fault) => return Err(LoadFault::Refused(line.0, fault)),
+            Err(fault) => return Err(fault_at(line.0, fault)),
         }
     }
     Ok(loading)
+}
+
+// The fault of the statement on a line.
+fn fault_at(line: usize, fault: StatementFault) -> LoadFault
+    ensures { result ≡ fault_at line fault }
+{
+    match fault {
+        StatementFault::Memory => LoadFault::Memory,
+        fault => LoadFault::Refused(line, fault),
+    }
 }
 
 // The empty front with the label, and room for so many declarations.

@@ -13,10 +13,9 @@ use Rattle.pts_infer.specs.declared.answer.FitFault.{FitFault}
 use Rattle.pts_infer.specs.declared.answer.FitFault.TheVariants as fit
 use Rattle.pts_infer.specs.Answered.{Refused, Unfit, OfTerm, OfType, OfFitted}
 use Rattle.pts_infer.specs.declared.part.Part.TheVariants.{Whole, Ty}
-use Rattle.pts_declare.specs.declared.fault.DeclareFault.TheVariants.{Infer}
 use Rattle.pts_declare.specs.Stated.{assumption, definition, typed_definition}
 use Rattle.pts_declare.specs.Checking.{flawed, entry, Checks, of_assumption, of_definition, of_typed_definition}
-use Rattle.pts_declare.specs.Refusals.{NotDeclared, fit_fault}
+use Rattle.pts_declare.specs.Refusals.{NotDeclared, infer_fault, fit_fault}
 
 module _ (S : Specification) (G : Globals) (x : Name) where
   pub type_within : (A : Named) (e : Global Name) (s b k : ℕ) → e ≡ entry x None A → WithinBudget (OfType S G A) b (comes s) k → WithinBudget (Checks S G x (assumption A)) b (comes e) k
@@ -37,13 +36,13 @@ module _ (S : Specification) (G : Globals) (x : Name) where
   above_fit : (A t : Named) (b : ℕ) → AboveBudget (OfFitted S G t A) b → AboveBudget (Checks S G x (typed_definition A t)) b
   above_fit A t b a p n (of_typed_definition o c q) = a o n c
 
-  pub type_refused : (A : Named) (f : InferFault) (b k : ℕ) → Refused [] (OfType S G A) f b k → NotDeclared S G x (assumption A) (Infer Ty f) b k
+  pub type_refused : (A : Named) (f : InferFault) (b k : ℕ) → Refused [] (OfType S G A) f b k → NotDeclared S G x (assumption A) (infer_fault Ty f) b k
   type_refused A (infer.Flaw f) b k (g, q, (n, c, e)) = (n, of_assumption (stops (by_flaw g)) c (ap (λ h. stops (by_flaw (flawed Ty h))) q), e)
   type_refused A infer.Spent b k (a, z) = (above_type A b a, z, refl)
   type_refused A infer.Deep b k (n, c, e) = ((n, of_assumption (stops by_limits) c refl, e), refl)
   type_refused A infer.Memory b k h = tt
 
-  pub body_refused : (t : Named) (f : InferFault) (b k : ℕ) → Refused [] (OfTerm S G t) f b k → NotDeclared S G x (definition t) (Infer Whole f) b k
+  pub body_refused : (t : Named) (f : InferFault) (b k : ℕ) → Refused [] (OfTerm S G t) f b k → NotDeclared S G x (definition t) (infer_fault Whole f) b k
   body_refused t (infer.Flaw f) b k (g, q, (n, c, e)) = (n, of_definition (stops (by_flaw g)) c (ap (λ h. stops (by_flaw (flawed Whole h))) q), e)
   body_refused t infer.Spent b k (a, z) = (above_body t b a, z, refl)
   body_refused t infer.Deep b k (n, c, e) = ((n, of_definition (stops by_limits) c refl, e), refl)

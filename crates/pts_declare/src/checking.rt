@@ -14,7 +14,7 @@ ghost use Rattle.pts_check.specs.Entered.{declared, MayEnter};
 ghost use Rattle.pts_reduce.specs.Given.{Later};
 ghost use Rattle.pts_declare.specs.Stated.{assumption, definition, typed_definition, stated_of, deep_part};
 ghost use Rattle.pts_declare.specs.Checking.{Checks, entry};
-ghost use Rattle.pts_declare.specs.Refusals.{NotDeclared, fit_fault};
+ghost use Rattle.pts_declare.specs.Refusals.{NotDeclared, infer_fault, fit_fault};
 
 use crate::fault::DeclareFault;
 use crate::stated::Stated;
@@ -34,7 +34,7 @@ use std::alloc::Global;
 ///
 /// `Infer` with the part in which inference stops, and its fault at its cost, a term that is itself beyond the limits
 /// costing nothing. `Spent` is shown of the body, or of the type of an assumption; `Deep` likewise, but of a given type that is
-/// itself beyond the limits where the body is not. After `Spent` the meter stands at its limit.
+/// itself beyond the limits where the body is not. After `Spent` the meter stands at its limit. `Memory`.
 pub fn check(
     alloc: Global,
     system: &System,
@@ -74,7 +74,7 @@ fn check_type(
 {
     match infer_type(alloc, system, front, &ty, meter) {
         Ok(proof) => Ok(finished(name, None, ty, proof)),
-        Err(fault) => Err(DeclareFault::Infer(Part::Ty, fault)),
+        Err(fault) => Err(infer_fault(Part::Ty, fault)),
     }
 }
 
@@ -99,7 +99,7 @@ fn check_body(
             let Typed { ty, proof } = typed;
             Ok(finished(name, Some(body), ty, proof))
         }
-        Err(fault) => Err(DeclareFault::Infer(Part::Whole, fault)),
+        Err(fault) => Err(infer_fault(Part::Whole, fault)),
     }
 }
 
@@ -145,6 +145,16 @@ fn finished(name: Name, body: Option<Term>, ty: Term, proof: Record) -> Declarat
     declaration
 }
 
+// A fault of the inference of a part.
+fn infer_fault(part: Part, fault: InferFault) -> DeclareFault
+    ensures { result ≡ infer_fault part fault }
+{
+    match fault {
+        InferFault::Memory => DeclareFault::Memory,
+        fault => DeclareFault::Infer(part, fault),
+    }
+}
+
 // A fault of the fit of a body to its type, with the part in which it is.
 fn fit_fault(fault: FitFault, ty: &Term, body: &Term) -> DeclareFault
     ensures { result ≡ fit_fault (named ty.now) (named body.now) fault }
@@ -154,11 +164,11 @@ fn fit_fault(fault: FitFault, ty: &Term, body: &Term) -> DeclareFault
         FitFault::Judged(flaw) => DeclareFault::Infer(Part::Whole, InferFault::Flaw(flaw)),
         FitFault::Spent => DeclareFault::Infer(Part::Whole, InferFault::Spent),
         FitFault::Deep => DeclareFault::Infer(deep_part(ty, body), InferFault::Deep),
-        FitFault::Memory => DeclareFault::Infer(Part::Whole, InferFault::Memory),
+        FitFault::Memory => DeclareFault::Memory,
     }
 }
 
-// The part of a definition with a given type that is told to be beyond the limits.
+// The part of a definition with a given type that is said to be beyond the limits.
 fn deep_part(ty: &Term, body: &Term) -> Part
     ensures { result ≡ deep_part (typed_definition (named ty.now) (named body.now)) }
 {

@@ -6,7 +6,7 @@ use Rattle.pts_infer_cost.specs.Typing.{Stop, by_flaw, by_limits}
 use Rattle.pts_infer.specs.FaultText.{part_text}
 use Rattle.pts_flaw_text.specs.FlawText.{flaw_text}
 use Rattle.pts_flaw_text.specs.InferText.{deep_text, infer_text}
-use Rattle.pts_declare.specs.declared.fault.DeclareFault.TheVariants.{Infer}
+use Rattle.pts_declare.specs.declared.fault.DeclareFault.TheVariants as declare
 use Rattle.pts_declare.specs.Checking.{flawed}
 use Rattle.pts_statement.specs.declared.fault.StatementFault.{StatementFault}
 use Rattle.pts_statement.specs.declared.fault.StatementFault.TheVariants.{Read, Taken, Declare, Memory}
@@ -27,5 +27,6 @@ module _ (sorts : List (List ℕ)) where
   abbrev pub fault_text : StatementFault → List ℕ
   fault_text (Read e) = read_text e
   fault_text (Taken x p) = reason_text (taken x p)
-  fault_text (Declare (Infer part e)) = infer_text sorts part e
+  fault_text (Declare (declare.Infer part e)) = infer_text sorts part e
+  fault_text (Declare declare.Memory) = codes "Memory"
   fault_text Memory = codes "Memory"

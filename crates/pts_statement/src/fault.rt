@@ -1,14 +1,14 @@
 // Why a statement is refused.
 
 ghost use Rattle.std.specs.Prelude.{◌≡◌};
-ghost use Rattle.pts_statement.specs.declared.fault.StatementFault.TheVariants.{Read as IsUnread, Declare as IsUndeclared, Memory as NoMemory};
+ghost use Rattle.pts_statement.specs.declared.fault.StatementFault.TheVariants.{Memory as NoMemory};
 
 use pts_declare::DeclareFault;
 use pts_names::Name;
 use pts_parser::ReadFault;
 use std::alloc::AllocError;
 
-/// Why a statement does not become a declaration.
+/// Why a statement does not become a declaration. `Memory` alone says that memory ran out.
 #[derive(Debug, Drop)]
 pub enum StatementFault {
     /// A name or a sort is unknown.
@@ -22,18 +22,28 @@ pub enum StatementFault {
 }
 
 impl From<ReadFault> for StatementFault {
-    ghost from_gives = { λ given fault. fault ≡ IsUnread given };
+    ghost use Rattle.pts_statement.specs.Refusals.{read_fault};
+
+    ghost from_gives = { λ given fault. fault ≡ read_fault given };
 
     fn from(fault: ReadFault) -> StatementFault {
-        StatementFault::Read(fault)
+        match fault {
+            ReadFault::Memory => StatementFault::Memory,
+            fault => StatementFault::Read(fault),
+        }
     }
 }
 
 impl From<DeclareFault> for StatementFault {
-    ghost from_gives = { λ given fault. fault ≡ IsUndeclared given };
+    ghost use Rattle.pts_statement.specs.Refusals.{declare_fault};
+
+    ghost from_gives = { λ given fault. fault ≡ declare_fault given };
 
     fn from(fault: DeclareFault) -> StatementFault {
-        StatementFault::Declare(fault)
+        match fault {
+            DeclareFault::Memory => StatementFault::Memory,
+            fault => StatementFault::Declare(fault),
+        }
     }
 }
 

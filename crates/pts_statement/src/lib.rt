@@ -11,7 +11,12 @@ mod words;
 
 pub use fault::StatementFault;
 pub use laws::statements_have_one_outcome;
+pub use pts_ctx::{Context, System};
 pub use pts_declare::DeclareFault;
+pub use pts_names::Name;
+pub use pts_parser::{ReadFault, Tree};
+pub use pts_record::Declaration;
+pub use pts_rules::Meter;
 pub use scope::FileScope;
 pub use statements::{assume, define};
 pub use words::fault_text;

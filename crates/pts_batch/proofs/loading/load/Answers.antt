@@ -15,7 +15,7 @@ returns-in-Err c =
       labels = tt;
       entries = tt;
       evidence = tt;
-      refused = step_stops c.args.system.now c.args.label.now all (left c.args.meter.now) c.loop-line.loading.context.entries (left c.loop-line.meter) (into_iter_items c.loop-line.rest) v.behind c.in-Some.line (into_iter_items c.next.new.self) c.in-Some.ensures.items c.in-Err.fault (left c.add.new.meter) c.in-Err.ensures.refused;
+      refused = step_stops c.args.system.now c.args.label.now all (left c.args.meter.now) c.loop-line.loading.context.entries (left c.loop-line.meter) (into_iter_items c.loop-line.rest) v.behind c.in-Some.line (into_iter_items c.next.new.self) c.in-Some.ensures.items c.in-Err.fault c.fault_at.result (left c.add.new.meter) c.fault_at.ensures c.in-Err.ensures.refused;
       later = (c.add.ensures.later.0 ∙ v.later.0, omega (arith, v.later.1, c.add.ensures.later.1));
     }
 
