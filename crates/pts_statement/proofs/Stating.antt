@@ -1,5 +1,5 @@
 -- What a statement comes to, by what is stated.
-use Rattle.std.proofs.Common.{◌≡◌, ℕ, IfOk, IfErr, Result, arith, refl, ap, sym, ◌∙◌, subst, None, Ok, Err}
+use Rattle.std.proofs.Common.{◌≡◌, ℕ, arith, refl, ap, sym, ◌∙◌, subst, None, Ok, Err}
 use Rattle.pts_names.specs.Name.{Name, joined}
 use Rattle.pts_ctx.specs.System.{Specification}
 use Rattle.pts_ctx.specs.Seen.{place_of}
