@@ -82,7 +82,7 @@ module _ {Core State Waiting Request Answer : Type 0} (Step : Core → ℕ → R
 -- If each round is another kind of round, each input is played by that kind.
 module _ {Core State : Type 0} (Round Other : Playing Core State → (numbers : List ℕ) → (out : List (List ℕ)) → Playing Core State → Type 0) (IsText : List ℕ → Type 0) (numbered : Bool) (other : (p q : Playing Core State) (numbers : List ℕ) (out : List (List ℕ)) → Round p numbers out q → Other p numbers out q) where
   line_played : {k : ℕ} {line : List ℕ} {p q : Playing Core State} {out : List (List ℕ)} → PlaysLine Round IsText numbered k line p out q → PlaysLine Other IsText numbered k line p out q
-  line_played (is_added says) = is_added says
+  line_played (is_added here says) = is_added here says
   line_played {p = p} {q = q} (runs_round {numbers = numbers} {out = out} says round) = runs_round says (other p q numbers out round)
   line_played (is_refused says) = is_refused says
 

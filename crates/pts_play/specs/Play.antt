@@ -45,9 +45,10 @@ module _ {Core State Waiting Request Answer : Type 0} (Step : Core → ℕ → R
 
 -- The play of an input, where a relation says what a round does.
 module _ {Core State : Type 0} (Round : Playing Core State → (numbers : List ℕ) → (out : List (List ℕ)) → Playing Core State → Type 0) (IsText : List ℕ → Type 0) (numbered : Bool) where
-  -- The line with the number k, which doesn't end the run, leads from p to the next state and prints the lines of out.
+  -- The line with the number k, which doesn't end the run, leads from p to the next state and prints the lines of out. A line
+  -- of a session is one of the sessions of the play.
   pub data PlaysLine (k : ℕ) (line : List ℕ) (p : Playing Core State) : (out : List (List ℕ)) → Playing Core State → Type 0 where
-    is_added : {n : ℕ} {text : List ℕ} → Says IsText numbered line (of_session n text) → PlaysLine k line p [] (record p { lines = p.lines ++ (n, text) ∷ [] })
+    is_added : {n : ℕ} {text : List ℕ} → n ≤ length p.sessions → Says IsText numbered line (of_session n text) → PlaysLine k line p [] (record p { lines = p.lines ++ (n, text) ∷ [] })
     runs_round : {numbers : List ℕ} {out : List (List ℕ)} {q : Playing Core State} → Says IsText numbered line (go numbers) → Round p numbers out q → PlaysLine k line p out q
     is_refused : Says IsText numbered line unknown_ → PlaysLine k line p (refused_line k ∷ []) p
 

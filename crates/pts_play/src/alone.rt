@@ -11,7 +11,7 @@ use std::alloc::{AllocError, Global};
 ///
 /// # Errors
 ///
-/// Out of memory, or what a step refuses.
+/// Out of memory, or what a step refuses. Then nothing is said of the seat, and of the core what its steps keep.
 pub fn run_through<P: Player>(
     alloc: Global,
     world: &P::World,

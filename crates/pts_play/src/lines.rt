@@ -9,7 +9,7 @@ use std::alloc::{AllocError, Global};
 ///
 /// # Errors
 ///
-/// Out of memory.
+/// Out of memory. Then nothing is said of the seats.
 pub fn add_line<P, Q>(seats: &mut [Seat<P, Q>], index: usize, text: Text) -> Result<(), AllocError>
     requires known { index < length seats.old }
     requires few { length seats.old ≤ 64 }

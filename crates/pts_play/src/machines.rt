@@ -30,7 +30,7 @@ pub trait Table<Q, A> {
     ///
     /// # Errors
     ///
-    /// Out of memory, or of room for one more event.
+    /// Out of memory, or of room for one more event. Then `keeps` says what is left of the core.
     fn step(&mut self, alloc: Global, session: u32, request: Q) -> Result<A, AllocError>
         requires { may self.old request }
         ensures steps { IfOk result (λ a. steps self.old session request a self.new) }
@@ -73,7 +73,7 @@ pub trait Player {
     ///
     /// # Errors
     ///
-    /// Out of memory.
+    /// Out of memory. Then nothing is said of the session.
     fn run_local(
         &mut self,
         alloc: Global,
@@ -87,7 +87,7 @@ pub trait Player {
     ///
     /// # Errors
     ///
-    /// Out of memory.
+    /// Out of memory. Then nothing is said of the session.
     fn resume(
         &mut self,
         alloc: Global,

@@ -13,7 +13,7 @@ use std::alloc::{AllocError, Global};
 ///
 /// # Errors
 ///
-/// Out of memory, or what a step refuses.
+/// Out of memory, or what a step refuses. Then nothing is said of the seats, and of the core what its steps keep.
 pub fn play_round<P: Player>(
     alloc: Global,
     world: &P::World,

@@ -51,7 +51,7 @@ pub fn done_line(alloc: Global, number: u64) -> Result<String, AllocError>
 ///
 /// # Errors
 ///
-/// Out of memory.
+/// Out of memory. Then the sessions are as before, and nothing is said of their lines and replies.
 pub fn close_round<P, Q>(
     alloc: Global,
     seats: &mut [Seat<P, Q>],

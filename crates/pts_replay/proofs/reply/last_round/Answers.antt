@@ -1,0 +1,10 @@
+use Rattle.std.proofs.Common.{[]}
+use Rattle.pts_play.specs.Play.{no_rest}
+use Rattle.pts_replay.proofs.Replying.{rest_runs}
+use Rattle.pts_replay.proofs.reply.last_round.Goals as goal
+
+pub returns-then-not-has_lines-clause-rest : goal.returns-then-not-has_lines-clause-rest
+returns-then-not-has_lines-clause-rest g c = ([], c.new.ensures.items, λ b. no_rest (c.has_lines.ensures.none c.if-not-has_lines.true))
+
+pub returns-clause-rest : goal.returns-clause-rest
+returns-clause-rest g c = rest_runs (g.G.Game.rounds c.args.world.now) (g.G.Game.state c.args.game.now) (g.G.Game.state c.run_round.new.self) c.run_round.result (λ v. v.items) (c.has_lines.ensures.some c.if-not-has_lines.false) c.run_round.ensures.played
