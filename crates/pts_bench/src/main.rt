@@ -1,0 +1,47 @@
+// `pts_bench ENTRIES` measures how long contexts of so many definitions of 30 nodes take, and prints nanoseconds: `bench/run` makes
+// its table of contexts with it. It is no part of the product, and promises only that it keeps to what contexts ask for.
+// Stands on contexts.
+#![tactic(auto)]
+
+mod contexts;
+mod entries;
+
+use crate::contexts::{building, copying, looking_up, making};
+use pts_ctx::ROOM;
+use std::process::ExitCode;
+use std::{env, io};
+
+fn main(rt: HostRuntime) -> ExitCode {
+    match wanted(&rt) {
+        Some(entries) => match measure(&rt, entries) {
+            Ok(()) => ExitCode::from(0),
+            Err(_) => ExitCode::from(7),
+        },
+        None => {
+            let _ = println!(rt; "usage: pts_bench ENTRIES, from 64 to {ROOM}");
+            ExitCode::from(2)
+        }
+    }
+}
+
+// The number that is the only word.
+fn wanted(rt: &HostRuntime) -> Option<usize> {
+    let mut words = env::args(rt).ok()?.skip(1);
+    let entries = words.next()?.as_str().parse::<usize>().ok()?;
+    match words.next() {
+        None if entries >= 64 && entries <= ROOM => Some(entries),
+        _ => None,
+    }
+}
+
+fn measure(rt: &HostRuntime, entries: usize) -> io::Result<()> {
+    let alloc = rt.alloc();
+    let making = making(alloc, rt, entries)?;
+    let building = building(alloc, rt, entries)?;
+    let copying = copying(alloc, rt, entries)?;
+    let oldest = looking_up(alloc, rt, entries, 0)?;
+    let missing = looking_up(alloc, rt, entries, entries)?;
+    println!(rt;
+        "making {making}\nbuilding {building}\ncopying {copying}\noldest {oldest}\nmissing {missing}"
+    )
+}
