@@ -3,26 +3,26 @@ ghost use Rattle.std.specs.Prelude.{◌≡◌};
 use pts_ctx::{Context, Entry, Name, NameFault, Sort, Term};
 use std::alloc::{AllocError, Global};
 
-fn push(context: &mut Context, entry: Entry, key: Name) -> Result<(), AllocError>
-    requires { key ≡ entry.name }
+fn push(context: &mut Context, name: Name, key: Name) -> Result<(), AllocError>
+    requires { key ≡ name }
 {
     context.reserve(1, 0)?;
-    if context.place_of(&key).is_none() && entry.is_within() {
+    if context.place_of(&key).is_none() {
+        let entry = Entry {
+            name,
+            body: None,
+            ty: Term::Sort(Sort(0)),
+        };
         context.push(entry, key);
     }
     Ok(())
 }
 
-/// Adds an assumption, where the context has no entry of the name, and the type is within limits.
-pub fn assume(context: &mut Context, alloc: Global, text: &str, ty: Term) -> Result<(), NameFault> {
+// Adds an assumption of sort 0.
+fn assume(context: &mut Context, alloc: Global, text: &str) -> Result<(), NameFault> {
     let name = Name::read(alloc, text)?;
     let key = name.copy()?;
-    let entry = Entry {
-        name,
-        body: None,
-        ty,
-    };
-    Ok(push(context, entry, key)?)
+    Ok(push(context, name, key)?)
 }
 
 fn mark(context: &mut Context, alloc: Global, text: &str) -> Result<(), NameFault> {
@@ -36,9 +36,9 @@ fn mark(context: &mut Context, alloc: Global, text: &str) -> Result<(), NameFaul
 
 // The entry a, the label m, and the entry b.
 fn fill(context: &mut Context, alloc: Global) -> Result<(), NameFault> {
-    assume(context, alloc, "a", Term::Sort(Sort(0)))?;
+    assume(context, alloc, "a")?;
     mark(context, alloc, "m")?;
-    assume(context, alloc, "b", Term::Sort(Sort(0)))
+    assume(context, alloc, "b")
 }
 
 fn finds(context: &Context, name: &Name, place: Option<usize>, label: Option<usize>) -> bool {

@@ -1,11 +1,9 @@
-//! Tests of the libraries by their public calls, of the laws, and of what crosses crates. Batches are tried with the program.
+//! The tests of all libraries but the program's: of each by its public calls, of the laws, and of what crosses crates.
 //! They have a crate of their own because the check of a crate with tests in it proves that crate once more.
 //! The proofs say what each call answers for every input; these calls show that it answers, and in a worked case what.
 //! No crate stands on it.
 #![tactic(auto)]
 
-#[cfg(test)]
-mod binders;
 #[cfg(test)]
 mod bytes;
 #[cfg(test)]
@@ -13,23 +11,13 @@ mod certificates;
 #[cfg(test)]
 mod checks;
 #[cfg(test)]
-mod comparisons;
-#[cfg(test)]
 mod contexts;
-#[cfg(test)]
-mod fits;
-#[cfg(test)]
-mod flaws;
-#[cfg(test)]
-mod formats;
 #[cfg(test)]
 mod grammar;
 #[cfg(test)]
 mod growths;
 #[cfg(test)]
 mod inference;
-#[cfg(test)]
-mod judgements;
 #[cfg(test)]
 mod laws;
 #[cfg(test)]
@@ -55,18 +43,10 @@ mod records;
 #[cfg(test)]
 mod reductions;
 #[cfg(test)]
-mod rounds;
-#[cfg(test)]
-mod sessions;
-#[cfg(test)]
 mod spec_files;
 #[cfg(test)]
 mod systems;
 #[cfg(test)]
 mod terms;
 #[cfg(test)]
-mod texts;
-#[cfg(test)]
 mod tokens;
-#[cfg(test)]
-mod worked;
