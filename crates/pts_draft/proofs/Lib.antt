@@ -1,0 +1,4 @@
+pub mod Following
+pub mod Freeness
+pub mod Keeping
+pub mod Refusing

@@ -1,0 +1,13 @@
+//! Tests of rounds, of plays, of cores and of drafts.
+//! They show that each call answers, and in a worked case what.
+//! No crate stands on it.
+#![tactic(auto)]
+
+#[cfg(test)]
+mod cores;
+#[cfg(test)]
+mod replays;
+#[cfg(test)]
+mod rounds;
+#[cfg(test)]
+mod sessions;
