@@ -1,4 +1,3 @@
-pub mod Feeds
 pub mod Progress
 pub mod Steps
 pub mod Endings

@@ -1,5 +1,4 @@
 pub mod Ahead
 pub mod Feeds
 pub mod Known
-pub mod Took
 pub mod Turns

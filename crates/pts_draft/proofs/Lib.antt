@@ -1,4 +1,0 @@
-pub mod Following
-pub mod Freeness
-pub mod Keeping
-pub mod Refusing
