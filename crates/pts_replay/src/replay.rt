@@ -27,6 +27,10 @@ pub struct Replay<P, Q, C> {
 
 impl<P: Drop, Q: Drop, C: Drop> Replay<P, Q, C> {
     /// The play of these sessions over the core at its start.
+    ///
+    /// # Errors
+    ///
+    /// Out of memory.
     pub fn new(alloc: Global, core: C, sessions: Vec<P>) -> Result<Replay<P, Q, C>, AllocError>
         ensures core { IfOk result (λ g. g.core ≡ core) }
         ensures sessions { IfOk result (λ g. players g.seats.items ≡ sessions.items) }
