@@ -72,7 +72,7 @@ pub fn concludes(front: &Context, declaration: &Declaration) -> bool
 }
 
 /// The terms of a declaration that its record concludes are within limits, as those of the record. This is said, and
-/// nothing is done.
+/// nothing is answered.
 pub fn concluded_limits(declaration: &Declaration)
     requires { concludes declaration.now.proof (bare_declared declaration.now) ≡ true }
     ensures { global_within (declared declaration.now) ≡ true }

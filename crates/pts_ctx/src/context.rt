@@ -27,8 +27,8 @@ const STEP: usize = 64;
 /// A global context: entries whose names differ, the oldest first, and labels, each with the number of entries that
 /// stood there when it was marked. Every term of it is within limits.
 ///
-/// The older entries lie in chunks, which its copies share; the last part is its own. So a copy costs about the same
-/// whatever the number of entries.
+/// The older entries lie in chunks, which its copies share; the last part is its own. A reservation keeps the last
+/// part short, and after one a copy costs about the same whatever the number of entries.
 #[derive(Drop)]
 pub struct Context {
     chunks: Vec<Chunk>,

@@ -1,3 +1,4 @@
+pub mod Feeds
 pub mod Progress
 pub mod Steps
 pub mod Endings

@@ -1,5 +1,5 @@
 -- What was printed where the lines came to their end.
-use Rattle.std.specs.Prelude.{◌≡◌, ℕ, ◌<◌, ◌≤◌, List, length, take, Option}
+use Rattle.std.specs.Prelude.{◌≡◌, ℕ, ◌≤◌, List, length, take, Option}
 use Rattle.std.specs.Io.KnownBytes.{append_known}
 use Rattle.pts_io.specs.declared.ended.Ended.{Ended}
 use Rattle.pts_io.specs.declared.ended.Ended.TheVariants.{Whole, ReadFailed, TooMuch, WriteFailed, NoMemory}
@@ -15,8 +15,8 @@ Shows NoMemory old new out = new ≡ append_known old out
 
 -- What the text answers of the bytes, of which n were taken.
 abbrev pub EndAnswers : List (List ℕ) → ℕ → Ended → ℕ → List ℕ → List ℕ → Type 0
-EndAnswers sorts limit Whole n bytes out = AnswersAll sorts bytes out
-EndAnswers sorts limit ReadFailed n bytes out = AnswersFirst sorts n bytes out
-EndAnswers sorts limit TooMuch n bytes out = (limit < length bytes) × AnswersFirst sorts limit bytes out
-EndAnswers sorts limit WriteFailed n bytes out = AnswersSome sorts bytes out
-EndAnswers sorts limit NoMemory n bytes out = AnswersSome sorts bytes out
+EndAnswers sorts limit Whole n bytes out = (n ≡ length bytes) × AnswersAll sorts bytes out
+EndAnswers sorts limit ReadFailed n bytes out = AnswersFirst sorts (take n bytes) out
+EndAnswers sorts limit TooMuch n bytes out = AnswersFirst sorts (take limit bytes) out
+EndAnswers sorts limit WriteFailed n bytes out = AnswersSome sorts n bytes out
+EndAnswers sorts limit NoMemory n bytes out = AnswersSome sorts n bytes out

@@ -1,5 +1,5 @@
 -- What is printed for lines of terms.
-use Rattle.std.specs.Prelude.{◌≡◌, ◌≢◌, ℕ, suc, ◌+◌, ◌-◌, ◌<◌, ◌≤◌, List, [], ◌++◌, length, take, Contains, codes, Option, None, Ok}
+use Rattle.std.specs.Prelude.{◌≡◌, ◌≢◌, ℕ, suc, ◌+◌, ◌<◌, ◌≤◌, ◌⊎◌, List, [], ◌∷◌, ◌++◌, length, Contains, codes, Option, None, Ok}
 use Rattle.std.specs.Io.BufRead.{first_line, drop_through}
 use Rattle.pts_names.specs.Name.{Name}
 use Rattle.pts_terms.specs.Tree.{Named}
@@ -33,15 +33,19 @@ pub data Answered (sorts : List (List ℕ)) (bytes : List ℕ) : (k : ℕ) → (
   none_yet : Answered sorts bytes 0 bytes []
   one_more : {k : ℕ} {left out line : List ℕ} → Answered sorts bytes k left out → 0 < length left → LineSays sorts (suc k) (first_line left) line → Answered sorts bytes (suc k) (drop_through 10 left) (out ++ line)
 
--- Some lines, from the first on, are answered.
-abbrev pub AnswersSome : List (List ℕ) → List ℕ → List ℕ → Type 0
-AnswersSome sorts bytes out = (k : ℕ) × (left : List ℕ) × Answered sorts bytes k left out
+-- Some lines, from the first on, are answered, and they are within the first n bytes.
+abbrev pub AnswersSome : List (List ℕ) → ℕ → List ℕ → List ℕ → Type 0
+AnswersSome sorts n bytes out = (k : ℕ) × (left : List ℕ) × Answered sorts bytes k left out × (length bytes ≤ n + length left)
 
 -- Each line is answered.
 abbrev pub AnswersAll : List (List ℕ) → List ℕ → List ℕ → Type 0
 AnswersAll sorts bytes out = (k : ℕ) × Answered sorts bytes k [] out
 
--- Each line is answered that ends by a line feed within the first n bytes, and none that goes on after them.
-abbrev pub AnswersFirst : List (List ℕ) → ℕ → List ℕ → List ℕ → Type 0
-AnswersFirst sorts n bytes out =
-    (k : ℕ) × (left : List ℕ) × Answered sorts bytes k left out × (length bytes ≤ n + length left) × ¬ Contains (take (n - (length bytes - length left)) left) 10
+-- The bytes are none, or end by a line feed.
+abbrev pub IsFed : List ℕ → Type 0
+IsFed bytes = (bytes ≡ []) ⊎ ((front : List ℕ) × (bytes ≡ front ++ 10 ∷ []))
+
+-- Each line is answered that a line feed ends, and what comes after the last line feed is not.
+abbrev pub AnswersFirst : List (List ℕ) → List ℕ → List ℕ → Type 0
+AnswersFirst sorts bytes out =
+    (whole : List ℕ) × (rest : List ℕ) × (bytes ≡ whole ++ rest) × IsFed whole × ¬ Contains rest 10 × AnswersAll sorts whole out

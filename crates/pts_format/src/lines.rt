@@ -1,4 +1,5 @@
-ghost use Rattle.std.specs.Prelude.{◌≡◌, ◌≢◌, ℕ, List, IfSome};
+ghost use Rattle.std.specs.Prelude.{◌≡◌, ◌≢◌, ◌≤◌, ℕ, List, length, IfSome};
+ghost use Rattle.std.specs.Io.KnownBytes.{IsAtEnd};
 ghost use Rattle.pts_io.specs.Counts.{raised, Rose};
 ghost use Rattle.pts_io.specs.declared.ended.Ended.{Ended};
 ghost use Rattle.pts_io.specs.Ends.{IsCount};
@@ -14,7 +15,7 @@ use std::alloc::Global;
 ///
 /// Answers how that came to its end. `ReadFailed` comes only where the source's count of faults rose, `WriteFailed` only
 /// where the sink's did, and `TooMuch` exactly where a byte after the limit was taken. Each line that was read whole was
-/// answered before.
+/// answered before. Where the source doesn't show its bytes, there are some that are answered so.
 pub fn format_lines<S: Source, K: Sink>(
     alloc: Global,
     system: &System,
@@ -26,9 +27,11 @@ pub fn format_lines<S: Source, K: Sink>(
     ensures reads { result ≢ Ended.ReadFailed → (S.state source.new).faults ≡ (S.state source.old).faults }
     ensures write_failed { result ≡ Ended.WriteFailed → Rose (K.state sink.old).faults (K.state sink.new).faults }
     ensures writes { result ≢ Ended.WriteFailed → (K.state sink.new).faults ≡ (K.state sink.old).faults }
+    ensures end { result ≡ Ended.Whole → IsAtEnd (S.state source.new).left }
     ensures lines { (n : ℕ) × ((S.state source.new).given ≡ raised (S.state source.old).given n) × IsCount limit result n
-        × ((out : List ℕ) × Shows result (K.state sink.old).written (K.state sink.new).written out
-        × IfSome (S.state source.old).left (λ bytes. EndAnswers system.now.sorts limit result n bytes out)) }
+        × ((bytes : List ℕ) × (out : List ℕ) × IfSome (S.state source.old).left (λ all. bytes ≡ all) × (n ≤ length bytes)
+        × Shows result (K.state sink.old).written (K.state sink.new).written out
+        × EndAnswers system.now.sorts limit result n bytes out) }
 {
     let Ok(mut reader) = LineReader::new(alloc, u64::from(limit)) else {
         return Ended::NoMemory;

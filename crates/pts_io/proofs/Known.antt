@@ -46,6 +46,13 @@ take-written old all piece behind rest len n most front len_is count within =
     let long : len + n ≤ length whole = omega (arith, length-append old (piece ++ behind), length-append piece behind) in
     rw front (take-take (len + n) most (whole ++ rest) within ∙ take-append-le (len + n) whole rest long ∙ ap (λ k. take (k + n) whole) (sym len_is) ∙ take-append-add old (piece ++ behind) n ∙ ap (λ xs. old ++ xs) (take-append-le n piece behind count))
 
+-- and one that was cut off before it
+pub take-kept : (old all piece behind rest : List ℕ) (len most : ℕ) → take len all ≡ old → length old ≡ len → len ≤ most → take len (take most ((take len all ++ (piece ++ behind)) ++ rest)) ≡ old
+take-kept old all piece behind rest len most front len_is within =
+    let whole : List ℕ = old ++ (piece ++ behind) in
+    let long : len ≤ length whole = omega (arith, length-append old (piece ++ behind), len_is) in
+    rw front (take-take len most (whole ++ rest) within ∙ take-append-le len whole rest long ∙ take-append-le len old (piece ++ behind) (omega (arith, len_is)) ∙ take_all len old (omega (arith, len_is)))
+
 -- what was taken is held, so the same lies ahead
 pub prepend_known-held : (old new taken : List ℕ) (before after : Option (List ℕ)) → new ≡ old ++ taken → before ≡ prepend_known taken after → prepend_known new after ≡ prepend_known old before
 prepend_known-held old new taken before after held moved =

@@ -1,4 +1,5 @@
 pub mod Ahead
 pub mod Feeds
 pub mod Known
+pub mod Took
 pub mod Turns

@@ -1,7 +1,9 @@
 -- Lines of the input, one after another.
-use Rattle.std.specs.Prelude.{◌≡◌, ◌≢◌, ℕ, ◌+◌, ◌-◌, ◌<◌, ◌≤◌, ◌⊎◌, Bool, List, [], length, take, slice_index, Contains, string_bytes, Result, Ok, Err}
+use Rattle.std.specs.Prelude.{◌≡◌, ◌≢◌, ℕ, ◌+◌, ◌-◌, ◌<◌, ◌≤◌, ◌⊎◌, Bool, true, false, List, [], ◌++◌, length, take, slice_index, Contains, string_bytes, Option, Result, Ok, Err, IfOk}
 use Rattle.std.specs.Str.{IsUtf8}
 use Rattle.std.specs.Io.BufRead.{first_line, drop_through}
+use Rattle.std.specs.Io.KnownBytes.{prepend_known}
+use Rattle.pts_io.specs.declared.faults.ReadFail.{ReadFail}
 use Rattle.pts_io.specs.declared.lines.Input.{Input}
 use Rattle.pts_io.specs.declared.lines.Input.TheVariants.{Text, Bad, TooMuch, End}
 
@@ -49,6 +51,20 @@ behind (Ok Bad) bytes = drop_through 10 bytes
 behind (Ok TooMuch) bytes = bytes
 behind (Ok End) bytes = bytes
 behind (Err fail) bytes = bytes
+
+-- What a call did that took these bytes: the reader was `old`, and is `new`. It answers by the bytes that it held and took
+-- alone, whether the source shows them or not.
+pub record Took (old new : Reading) (result : Result Input ReadFail) (taken : List ℕ) : Type 0 where
+  pub count : new.taken ≡ old.taken + length taken
+  pub rest : new.held ≡ behind result (old.held ++ taken)
+  pub answer : old.taken ≤ old.limit → IfOk result (IsNext (within old) (old.held ++ taken))
+  -- a line that no line feed ends is the last one
+  pub fed : new.ended ≡ false → Contains (old.held ++ taken) 10 ⊎ (behind result (old.held ++ taken) ≡ old.held ++ taken)
+  pub empty : new.ended ≡ true → new.held ≡ []
+
+-- Bytes that were left were taken, and are held after the others.
+abbrev pub Gets : (held held_after : List ℕ) → (left left_after : Option (List ℕ)) → Type 0
+Gets held held_after left left_after = (taken : List ℕ) × (held_after ≡ held ++ taken) × (left ≡ prepend_known taken left_after)
 
 -- no byte is a line feed
 abbrev pub NoFeed : List ℕ → Type 0

@@ -1,10 +1,10 @@
-ghost use Rattle.std.specs.Prelude.{◌≡◌, ◌≢◌, ◌+◌, ◌-◌, ◌<◌, ◌≤◌, ◌⊎◌, ◌↔◌, true, false, [], length, take, drop, vec_len, Contains, Ok, Err, IfOk, IfSome, IfErr, IsTrue, MatchOption, MatchResult};
+ghost use Rattle.std.specs.Prelude.{◌≡◌, ◌≢◌, ℕ, ◌+◌, ◌-◌, ◌<◌, ◌≤◌, ◌⊎◌, ◌↔◌, List, true, false, [], length, take, drop, vec_len, Contains, Ok, Err, IfOk, IfSome, IfErr, IsTrue, MatchOption, MatchResult};
 ghost use Rattle.std.specs.Option.{option_map};
 ghost use Rattle.std.specs.Io.KnownBytes.{prepend_known, IsAtEnd};
 ghost use Rattle.std.specs.Io.BufRead.{first_line, strip_last};
 ghost use Rattle.pts_io.specs.Counts.{raised, Rose};
 ghost use Rattle.pts_io.specs.Calls.{moved};
-ghost use Rattle.pts_io.specs.Lines.{within, IsAnswer, IsNext, behind, NoFeed, IsFirstFeed};
+ghost use Rattle.pts_io.specs.Lines.{within, IsAnswer, IsNext, behind, Took, Gets, NoFeed, IsFirstFeed};
 
 use crate::faults::{Fail, ReadFail};
 use crate::sources::Source;
@@ -109,6 +109,9 @@ impl LineReader {
         ensures ended { (self.old.ended ≡ true → IsAtEnd (S.state source.old).left) → self.new.ended ≡ true → IsAtEnd (S.state source.new).left }
         ensures fed { self.new.ended ≡ false → IfSome (prepend_known self.old.held (S.state source.old).left)
             (λ bytes. Contains bytes 10 ⊎ (behind result bytes ≡ bytes)) }
+        ensures closes { result ≡ Ok Input.End → self.new.ended ≡ true }
+        ensures took { (taken : List ℕ) × ((S.state source.old).left ≡ prepend_known taken (S.state source.new).left)
+            × Took self.old self.new result taken }
     {
         if self.is_over {
             return Ok(Input::TooMuch);
@@ -148,6 +151,9 @@ impl LineReader {
         ensures ended { self.new.ended ≡ true → IsAtEnd (S.state source.new).left }
         ensures fed { self.new.ended ≡ false → IfSome (prepend_known self.old.held (S.state source.old).left)
             (λ bytes. Contains bytes 10 ⊎ (behind result bytes ≡ bytes)) }
+        ensures closes { result ≡ Ok Input.End → self.new.ended ≡ true }
+        ensures took { (taken : List ℕ) × ((S.state source.old).left ≡ prepend_known taken (S.state source.new).left)
+            × Took self.old self.new result taken }
     {
         'turns: loop {
             let seen = self.held().len();
@@ -231,6 +237,7 @@ impl LineReader {
         ensures taken { self.new.taken ≡ self.old.taken }
         ensures limit { self.new.limit ≡ self.old.limit }
         ensures ended { MatchResult result (λ _. self.new.ended ≡ true) (λ _. self.new.ended ≡ false) }
+        ensures nothing_held { self.new.ended ≡ true → self.new.held ≡ [] }
     {
         let line = self.held();
         if line.is_empty() {
@@ -260,6 +267,7 @@ impl LineReader {
         ensures most { self.new.taken ≤ self.new.limit + 1 }
         ensures one { self.old.taken < self.new.limit → self.new.taken ≤ self.new.limit }
 
+        ensures gets { Gets self.old.held self.new.held (S.state source.old).left (S.state source.new).left }
         ensures front { take (length self.old.held) self.new.held ≡ self.old.held }
         ensures len { length self.new.held ≡ length self.old.held + moved result }
         ensures ahead { prepend_known self.new.held (S.state source.new).left ≡ prepend_known self.old.held (S.state source.old).left }
@@ -287,6 +295,7 @@ fn take_onto<S: Source>(source: &mut S, bytes: &mut Vec<u8>, most: usize) -> Res
 
     ensures given { (S.state source.new).given ≡ raised (S.state source.old).given (moved result) }
     ensures bound { moved result ≤ most }
+    ensures gets { Gets bytes.old.items bytes.new.items (S.state source.old).left (S.state source.new).left }
     ensures front { take (vec_len bytes.old) bytes.new.items ≡ bytes.old.items }
     ensures len { vec_len bytes.new ≡ vec_len bytes.old + moved result }
     ensures ahead { prepend_known bytes.new.items (S.state source.new).left ≡ prepend_known bytes.old.items (S.state source.old).left }

@@ -1,7 +1,7 @@
 -- The ways in which a run of `format` ends.
 use Rattle.std.proofs.Common.{◌≡◌, ℕ, ◌+◌, ◌≤◌, ◌⊎◌, inl, inr, List, [], ◌++◌, length, take, refl, sym, ap, ◌∙◌, subst, arith, Option, length-append}
 use Rattle.std.specs.Prelude.{IfSome, codes}
-use Rattle.std.specs.Io.KnownBytes.{append_known}
+use Rattle.std.specs.Io.KnownBytes.{append_known, IsAtEnd}
 use Rattle.std.proofs.Math.Seq.{take-append-add}
 use Rattle.pts_ctx.specs.System.{Specification}
 use Rattle.pts_io.specs.Counts.{raised, Rose}
@@ -20,7 +20,7 @@ use Rattle.yarrow.specs.Formats.{LinesPrint, answered, read_failed, too_long, no
 -- What the lines came to, where the sink was `old` and is then `mid`.
 abbrev pub Reported : (sorts : List (List ℕ)) (s t : SourceState) (old mid : SinkState) → Ended → Type 0
 Reported sorts s t old mid e =
-    (n : ℕ) × (t.given ≡ raised s.given n) × IsCount 16777216 e n × ((out : List ℕ) × Shows e old.written mid.written out × IfSome s.left (λ bytes. EndAnswers sorts 16777216 e n bytes out))
+    (n : ℕ) × (t.given ≡ raised s.given n) × IsCount 16777216 e n × ((bytes : List ℕ) × (out : List ℕ) × IfSome s.left (λ all. bytes ≡ all) × (n ≤ length bytes) × Shows e old.written mid.written out × EndAnswers sorts 16777216 e n bytes out)
 
 -- Two texts, one after the other.
 joined : (old mid new : Option (List ℕ)) (out line : List ℕ) → mid ≡ append_known old out → new ≡ append_known mid line → new ≡ append_known old (out ++ line)
@@ -55,35 +55,36 @@ writes_nothing P old st wanted e p = inl ([], subst (λ k. P k []) (sym e) p, (s
 
 -- The ends of the lines.
 module _ (sorts : List (List ℕ)) (s t : SourceState) (old mid : SinkState) where
-  pub whole_end : (st : ℕ) → st ≡ 0 → t.faults ≡ s.faults → mid.faults ≡ old.faults → Reported sorts s t old mid Whole → Writes (LinesPrint sorts s t) old mid st
-  whole_end st e reads writes r =
+  pub whole_end : (st : ℕ) → st ≡ 0 → t.faults ≡ s.faults → mid.faults ≡ old.faults → IsAtEnd t.left → Reported sorts s t old mid Whole → Writes (LinesPrint sorts s t) old mid st
+  whole_end st e reads writes last r =
       let (n, given, few, rest) = r in
-      let (out, shown, says) = rest in
-      inl (out, subst (λ k. LinesPrint sorts s t k out) (sym e) (answered n out few (given, reads) says), (shown, writes))
+      let (bytes, out, all, inside, shown, says) = rest in
+      let count : n ≡ length bytes = says.0 in
+      inl (out, subst (λ k. LinesPrint sorts s t k out) (sym e) (answered bytes out (omega (arith, few, count)) (given ∙ ap (raised s.given) count, reads) all last says.1), (shown, writes))
 
   pub memory_end : (st : ℕ) → st ≡ 7 → t.faults ≡ s.faults → mid.faults ≡ old.faults → Reported sorts s t old mid NoMemory → Writes (LinesPrint sorts s t) old mid st
   memory_end st e reads writes r =
       let (n, given, few, rest) = r in
-      let (out, shown, says) = rest in
-      inl (out, subst (λ k. LinesPrint sorts s t k out) (sym e) (no_memory n out few (given, reads) says), (shown, writes))
+      let (bytes, out, all, inside, shown, says) = rest in
+      inl (out, subst (λ k. LinesPrint sorts s t k out) (sym e) (no_memory n bytes out few inside (given, reads) all says), (shown, writes))
 
   pub write_failed_end : (st : ℕ) → st ≡ 5 → t.faults ≡ s.faults → Rose old.faults mid.faults → Reported sorts s t old mid WriteFailed → Writes (LinesPrint sorts s t) old mid st
   write_failed_end st e reads rose r =
       let (n, given, few, rest) = r in
-      let (out, shown, says) = rest in
-      inr (e, (7, out, no_memory n out few (given, reads) says, (rose, shown)))
+      let (bytes, out, all, inside, shown, says) = rest in
+      inr (e, (7, out, no_memory n bytes out few inside (given, reads) all says, (rose, shown)))
 
   pub read_failed_end : (new : SinkState) (st : ℕ) → Rose s.faults t.faults → mid.faults ≡ old.faults → Reported sorts s t old mid ReadFailed → PrintsLine 4 (codes "read failed\n") mid new st → Writes (LinesPrint sorts s t) old new st
   read_failed_end new st rose quiet r w =
       let (n, given, few, rest) = r in
-      let (out, shown, says) = rest in
-      writes_after (LinesPrint sorts s t) old mid new st 4 out (codes "read failed\n") (shown, quiet) (read_failed n out few given rose says) w
+      let (bytes, out, all, inside, shown, says) = rest in
+      writes_after (LinesPrint sorts s t) old mid new st 4 out (codes "read failed\n") (shown, quiet) (read_failed n bytes out few inside given rose all says) w
 
   pub too_long_end : (new : SinkState) (st : ℕ) → t.faults ≡ s.faults → mid.faults ≡ old.faults → Reported sorts s t old mid TooMuch → PrintsLine 8 (codes "input too long\n") mid new st → Writes (LinesPrint sorts s t) old new st
   too_long_end new st reads quiet r w =
       let (n, given, count, rest) = r in
-      let (out, shown, says) = rest in
-      writes_after (LinesPrint sorts s t) old mid new st 8 out (codes "input too long\n") (shown, quiet) (too_long out (given ∙ ap (raised s.given) count, reads) says) w
+      let (bytes, out, all, inside, shown, says) = rest in
+      writes_after (LinesPrint sorts s t) old mid new st 8 out (codes "input too long\n") (shown, quiet) (too_long bytes out (omega (arith, count, inside)) (given ∙ ap (raised s.given) count, reads) all says) w
 
 -- nothing was taken
 untouched : (s t : SourceState) → TakesNothing s t → Takes s t 0

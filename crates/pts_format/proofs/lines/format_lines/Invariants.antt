@@ -1,5 +1,5 @@
-use Rattle.std.proofs.Common.{◌≡◌, true, ℕ, List, ◌≤◌, IfSome}
-use Rattle.std.specs.Io.KnownBytes.{prepend_known, append_known, IsAtEnd}
+use Rattle.std.proofs.Common.{◌≡◌, true, ℕ, List, [], ◌≤◌}
+use Rattle.std.specs.Io.KnownBytes.{append_known, IsAtEnd}
 use Rattle.pts_io.specs.Counts.{raised}
 use Rattle.pts_format.proofs.Progress.{Stands}
 use Rattle.pts_format.proofs.lines.format_lines.Given as goal
@@ -9,8 +9,9 @@ invariant-loop-before g l = record {
   limit : l.reader.limit ≡ l.limit;
   inside : l.reader.taken ≤ l.limit;
   ended : l.reader.ended ≡ true → IsAtEnd (g.S.Source.state l.source).left;
+  empty : l.reader.ended ≡ true → l.reader.held ≡ [];
   reads : (g.S.Source.state l.source).faults ≡ (g.S.Source.state l.initial.source).faults;
   writes : (g.K.Sink.state l.sink).faults ≡ (g.K.Sink.state l.initial.sink).faults;
   given : (g.S.Source.state l.source).given ≡ raised (g.S.Source.state l.initial.source).given l.reader.taken;
-  lines : (out : List ℕ) × ((g.K.Sink.state l.sink).written ≡ append_known (g.K.Sink.state l.initial.sink).written out) × IfSome (g.S.Source.state l.initial.source).left (λ bytes. Stands l.system.sorts l.limit bytes l.reader (prepend_known l.reader.held (g.S.Source.state l.source).left) l.before out);
+  lines : (out : List ℕ) × ((g.K.Sink.state l.sink).written ≡ append_known (g.K.Sink.state l.initial.sink).written out) × Stands l.system.sorts (g.S.Source.state l.initial.source).left (g.S.Source.state l.source).left l.reader.taken l.before l.reader.held out l.reader.ended;
 }

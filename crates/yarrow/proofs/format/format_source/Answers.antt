@@ -5,7 +5,7 @@ use Rattle.yarrow.proofs.format.format_source.Goals as goal
 pub returns-in-Whole-clause-format : goal.returns-in-Whole-clause-format
 returns-in-Whole-clause-format g c =
     let n = c.in-Whole.ensures in
-    whole_end _ _ _ (g.K.Sink.state c.args.sink.now) (g.K.Sink.state c.format_lines.new.sink) c.finished.result.status c.finished.ensures.status (n.reads (λ h. cc h)) (n.writes (λ h. cc h)) n.lines
+    whole_end _ _ _ (g.K.Sink.state c.args.sink.now) (g.K.Sink.state c.format_lines.new.sink) c.finished.result.status c.finished.ensures.status (n.reads (λ h. cc h)) (n.writes (λ h. cc h)) (n.end refl) n.lines
 
 pub returns-in-ReadFailed-clause-format : goal.returns-in-ReadFailed-clause-format
 returns-in-ReadFailed-clause-format g c =

@@ -1,7 +1,9 @@
-use Rattle.std.proofs.Common.{rules, inl, inr, refl, ◌≤◌, ap, ◌∙◌, arith}
+use Rattle.std.proofs.Common.{rules, inl, inr, refl, ◌<◌, ◌≤◌, ap, sym, ◌∙◌, arith}
+use Rattle.std.proofs.lemmas.List.{drop_all}
 use Rattle.std.specs.Io.KnownBytes.{prepend_known}
 use Rattle.pts_io.specs.declared.faults.ReadFail.{ReadFail}
 use Rattle.pts_io.proofs.Ahead.{none_contained, behind-append, behind-ahead, answer_ahead, room_ahead, feed_ahead}
+use Rattle.pts_io.proofs.Took.{gets_nothing, took_line, took_no_more}
 use Rattle.pts_io.proofs.lines.LineReader.next.Goals as goal
 
 pub returns-in-Some-clause-ahead : goal.returns-in-Some-clause-ahead
@@ -28,3 +30,15 @@ returns-in-Some-clause-room g c =
 
 pub returns-in-Some-clause-fed : goal.returns-in-Some-clause-fed
 returns-in-Some-clause-fed g c _ = feed_ahead ReadFail c.hand_out.result c.args.self.now.held (g.S.Source.state c.args.source.now).left c.in-Some.end c.in-Some.ensures
+
+pub returns-then-self-clause-took : goal.returns-then-self-clause-took
+returns-then-self-clause-took g c =
+    let over : c.args.self.now.limit < c.args.self.now.taken = search rules in
+    took_no_more c.args.self.now _ over (λ e. ap (λ reading. reading.held) (sym c.self.view_is) ∙ drop_all c.self.inside.start c.self.inside.bytes.items (omega (arith, c.self.invariant.3 (ap (λ reading. reading.ended) c.self.view_is ∙ e), c.self.inside.bytes.ok.0)))
+
+pub returns-in-Some-clause-took : goal.returns-in-Some-clause-took
+returns-in-Some-clause-took g c =
+    let out = c.hand_out.ensures in
+    let inside : c.args.self.now.taken ≤ c.args.self.now.limit = search rules in
+    took_line c.args.self.now c.hand_out.new.self c.args.self.now.held _ _ (gets_nothing _ _ _ _ refl refl) (omega (arith, out.taken)) (λ e. absurd (cc (e, out.ended)))
+    c.hand_out.result c.in-Some.end c.in-Some.ensures out.held (omega (arith, inside, out.taken)) out.answer
