@@ -20,7 +20,9 @@ use std::alloc::Global;
 ///
 /// Answers how that came to its end. `ReadFailed` comes only where the source's count of faults rose, `WriteFailed` only where
 /// the sink's did, and `TooMuch` exactly where a byte after the limit was taken; where the source failed or has too much, the
-/// round that has not run does not run. `NoMemory` comes where memory ran out, or where a step of the core refuses for lack of room.
+/// lines are played that a line feed ends, and the round that has not run does not run. `NoMemory` comes where memory ran out,
+/// or where a step of the core refuses for lack of room. Where the source doesn't show its bytes, there are some that are
+/// played so.
 pub fn play_input<G: Game, S: Source, K: Sink>(
     alloc: Global,
     world: &G::World,
@@ -37,8 +39,10 @@ pub fn play_input<G: Game, S: Source, K: Sink>(
     ensures write_failed { result ≡ Ended.WriteFailed → Rose (K.state sink.old).faults (K.state sink.new).faults }
     ensures writes { result ≢ Ended.WriteFailed → (K.state sink.new).faults ≡ (K.state sink.old).faults }
     ensures plays { (n : ℕ) × ((S.state source.new).given ≡ raised (S.state source.old).given n) × IsCount limit result n
-        × ((out : List ℕ) × Shows result (K.state sink.old).written (K.state sink.new).written out
-        × IfSome (S.state source.old).left (λ bytes. (q : Playing G.Core G.State) × EndPlays (G.rounds world.now) numbered limit result n bytes (G.state game.old) out q × LeftAt result q (G.state game.new))) }
+        × ((bytes : List ℕ) × (out : List ℕ) × (q : Playing G.Core G.State)
+        × IfSome (S.state source.old).left (λ all. bytes ≡ all) × (n ≤ length bytes)
+        × Shows result (K.state sink.old).written (K.state sink.new).written out
+        × EndPlays (G.rounds world.now) numbered limit result n bytes (G.state game.old) out q × LeftAt result q (G.state game.new)) }
     ensures keeps { G.keeps game.old game.new }
 {
     let Ok(mut reader) = LineReader::new(alloc, u64::from(limit)) else {
