@@ -6,3 +6,4 @@ pub mod Progress
 pub mod Finishing
 pub mod Handing
 pub mod Replying
+pub mod Mapped

@@ -15,13 +15,14 @@ use pts_names::Text;
 use std::alloc::Global;
 
 /// Reads the source line by line, and plays it: a line of a session is added to the next round, `go` runs the round, `end`
-/// ends the run, and any other line is answered at once. What a line prints is printed before the next one is read. At the end
-/// the round runs that has not run, if it has a line. At most one byte after the first `limit` is taken, and it is not played.
+/// ends the run, and any other line is refused. At the end the round runs that has not run, if it has a line. At most one byte
+/// after the first `limit` is taken, and it is not played. What a line prints is printed before the next one is read, which no
+/// clause says.
 ///
 /// Answers how that came to its end. `ReadFailed` comes only where the source's count of faults rose, `WriteFailed` only where
 /// the sink's did, and `TooMuch` exactly where a byte after the limit was taken; where the source failed or has too much, the
 /// lines are played that a line feed ends, and the round that has not run does not run. `NoMemory` comes where memory ran out,
-/// or where a step of the core refuses for lack of room. Where the source doesn't show its bytes, there are some that are
+/// or where a step of the core refuses since it has no room. Where the source doesn't show its bytes, there are some that are
 /// played so.
 pub fn play_input<G: Game, S: Source, K: Sink>(
     alloc: Global,

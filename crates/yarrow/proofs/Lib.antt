@@ -6,3 +6,5 @@ pub mod BatchEnds
 pub mod ModuleWord
 pub mod Texts
 pub mod TwoReads
+pub mod ReplayStart
+pub mod ReplayEnds

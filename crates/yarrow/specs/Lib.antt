@@ -6,4 +6,6 @@ pub mod Systems
 pub mod Runs
 pub mod Formats
 pub mod Batches
+pub mod Replays
+pub mod Plays
 pub mod Commanded

@@ -37,29 +37,30 @@ Writes P old new status =
     ((text : List ℕ) × P status text × Prints old new text)
     ⊎ ((status ≡ 5) × ((wanted : ℕ) × (text : List ℕ) × P wanted text × PrintsPart old new text))
 
--- The status, the text and the entries of a run of `check`, where the sink does not fail.
-pub data CheckPrints (old new : SourceState) : (status : ℕ) → (text : List ℕ) → (entries : List (Global Name)) → Type 0 where
+-- The status, the text, and the entries and the labels of the context of a run of `check`, where the sink does not fail.
+-- There are no labels.
+pub data CheckPrints (old new : SourceState) : (status : ℕ) → (text : List ℕ) → (entries : List (Global Name)) → (labels : List (Name × ℕ)) → Type 0 where
   -- 0 and 1: the source was read to its end, and these are the answer to its bytes, which were at most 16 MiB
   answered : (bytes : List ℕ) → length bytes ≤ 16777216 → Takes old new (length bytes)
       → IfSome old.left (λ all. bytes ≡ all) → IsAtEnd new.left
-      → CheckPrints old new (answer_to bytes).status (answer_to bytes).line (answer_to bytes).entries
+      → CheckPrints old new (answer_to bytes).status (answer_to bytes).line (answer_to bytes).entries []
   -- 4: the source failed, as its count shows
   read_failed : (n : ℕ) → n ≤ 16777216 → new.given ≡ raised old.given n → Rose old.faults new.faults
-      → CheckPrints old new 4 (codes "read failed\n") []
+      → CheckPrints old new 4 (codes "read failed\n") [] []
   -- 8: byte 16,777,217 was taken
   too_long : Takes old new 16777217 → IfSome old.left (λ all. 16777216 < length all)
-      → CheckPrints old new 8 (codes "input too long\n") []
+      → CheckPrints old new 8 (codes "input too long\n") [] []
   -- 7: there was no memory for the bytes or for the answer
-  no_memory : (n : ℕ) → n ≤ 16777216 → new.given ≡ raised old.given n → CheckPrints old new 7 [] []
+  no_memory : (n : ℕ) → n ≤ 16777216 → new.given ≡ raised old.given n → CheckPrints old new 7 [] [] []
 
--- A run of `check` with a status and the entries of the context that it hands back.
-pub record IsCheckRun (source source_after : SourceState) (sink sink_after : SinkState) (status : ℕ) (entries : List (Global Name)) : Type 0 where
-  pub prints : Writes (λ st out. CheckPrints source source_after st out entries) sink sink_after status
+-- A run of `check` with a status, and the entries and the labels of the context that it hands back.
+pub record IsCheckRun (source source_after : SourceState) (sink sink_after : SinkState) (status : ℕ) (entries : List (Global Name)) (labels : List (Name × ℕ)) : Type 0 where
+  pub prints : Writes (λ st out. CheckPrints source source_after st out entries labels) sink sink_after status
   -- the context is legal, by the certificate's system where the source shows its bytes
   pub legal : (S : Specification) × Legal S (bare_front entries)
   pub chosen : IfSome source.left (λ text. IsLegalBy (certificate_of text) entries)
 
 -- A run whose words have no form: nothing is taken from the source.
-abbrev pub IsUsageRun : (source source_after : SourceState) → (sink sink_after : SinkState) → (status : ℕ) → (entries : List (Global Name)) → Type 0
-IsUsageRun source source_after sink sink_after status entries =
-    PrintsLine 2 (codes "usage\n") sink sink_after status × TakesNothing source source_after × (entries ≡ [])
+abbrev pub IsUsageRun : (source source_after : SourceState) → (sink sink_after : SinkState) → (status : ℕ) → (entries : List (Global Name)) → (labels : List (Name × ℕ)) → Type 0
+IsUsageRun source source_after sink sink_after status entries labels =
+    PrintsLine 2 (codes "usage\n") sink sink_after status × TakesNothing source source_after × (entries ≡ []) × (labels ≡ [])

@@ -62,3 +62,8 @@ unready_status NoFile = 6
 unready_status TooLong = 8
 unready_status (Refused e) = 3
 unready_status NoMemory = 7
+
+-- The status and the text where a file, or the system that it specifies, is not there.
+pub data UnreadyPrints (name : List ℕ) (why : Unready) : (status : ℕ) → (out : List ℕ) → Type 0 where
+  shown : UnreadyPrints name why (unready_status why) (unready_line name why)
+  no_memory_to_show : UnreadyPrints name why 7 []

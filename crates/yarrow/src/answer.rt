@@ -1,6 +1,6 @@
 // What the program answers to a certificate.
 
-ghost use Rattle.std.specs.Prelude.{◌≡◌, Ok, IfOk, string_bytes};
+ghost use Rattle.std.specs.Prelude.{◌≡◌, [], Ok, IfOk, string_bytes};
 ghost use Rattle.pts_certificate.specs.Seen.{written_of};
 ghost use Rattle.yarrow.specs.Answers.{answer_to, answer_read};
 
@@ -24,6 +24,7 @@ pub(crate) fn answer_to(alloc: Global, bytes: &[u8]) -> Result<Answer, AllocErro
     ensures status { IfOk result (λ a. a.status ≡ (answer_to bytes.now).status) }
     ensures line { IfOk result (λ a. string_bytes a.line ≡ (answer_to bytes.now).line) }
     ensures entries { IfOk result (λ a. a.context.entries ≡ (answer_to bytes.now).entries) }
+    ensures labels { IfOk result (λ a. a.context.labels ≡ []) }
 {
     match read_certificate(alloc, bytes) {
         Ok(certificate) => answer_read(alloc, certificate),
@@ -41,6 +42,7 @@ fn answer_read(alloc: Global, certificate: Certificate) -> Result<Answer, AllocE
     ensures status { IfOk result (λ a. a.status ≡ (answer_read (Ok (written_of certificate))).status) }
     ensures line { IfOk result (λ a. string_bytes a.line ≡ (answer_read (Ok (written_of certificate))).line) }
     ensures entries { IfOk result (λ a. a.context.entries ≡ (answer_read (Ok (written_of certificate))).entries) }
+    ensures labels { IfOk result (λ a. a.context.labels ≡ []) }
 {
     let Certificate {
         system,

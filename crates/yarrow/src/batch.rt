@@ -8,12 +8,12 @@ ghost use Rattle.pts_batch.specs.Batches.{BatchAnswers};
 ghost use Rattle.pts_batch.specs.Shown.{answer_seen};
 ghost use Rattle.yarrow.specs.Commands.{is_module};
 ghost use Rattle.yarrow.specs.Runs.{Prints, PrintsPart, Writes};
-ghost use Rattle.yarrow.specs.Batches.{IsBatchRun, IsLegalIn, FilesPrint, AnswerPrints, ModulePrints, UnreadyPrints, text_of, done_line};
+ghost use Rattle.yarrow.specs.Batches.{IsBatchRun, IsLegalIn, FilesPrint, AnswerPrints, ModulePrints, text_of, done_line};
 
 use crate::run::{Finish, ended, printed, without_memory};
-use crate::system::{Unready, file_named, system_in, unready_line, unready_status};
+use crate::system::{file_named, print_unready, system_in};
 use pts_batch::{Batch, World, batch};
-use pts_ctx::{Context, System};
+use pts_ctx::System;
 use pts_io::{Library, Sink, write_whole};
 use pts_names::{Name, NameFault, Text};
 use std::alloc::{AllocError, Global};
@@ -33,39 +33,20 @@ pub fn run_batch<K: Sink, L: Library>(
 ) -> Finish
     requires named { is_module name.now ≡ true }
     ensures batch { IsBatchRun spec.now name.now (L.state library.old) (L.state library.new)
-        (K.state sink.old) (K.state sink.new) result.status result.context.entries }
+        (K.state sink.old) (K.state sink.new) result.status result.context.entries result.context.labels }
     ensures order { result.order ≡ [] }
     ensures files { (L.state library.new).files ≡ (L.state library.old).files }
 {
     let text = match file_named(alloc, spec, library) {
         Ok(text) => text,
-        Err(why) => return unready(alloc, spec, &why, sink),
+        Err(why) => return print_unready(alloc, spec, &why, sink),
     };
     let Ok(file) = format!(in alloc; "{name}.yar") else {
         return without_memory(alloc);
     };
     match file_named(alloc, file.as_str(), library) {
         Ok(bytes) => batch_files(alloc, spec, name, text.as_slice(), bytes.as_slice(), sink),
-        Err(why) => unready(alloc, file.as_str(), &why, sink),
-    }
-}
-
-// The end of a run for which a file, or the system that it specifies, is not there.
-fn unready<K: Sink>(alloc: Global, name: &str, why: &Unready, sink: &mut K) -> Finish
-    ensures prints { Writes (UnreadyPrints name.now why.now)
-        (K.state sink.old) (K.state sink.new) result.status }
-    ensures context { result.context.entries ≡ [] }
-    ensures order { result.order ≡ [] }
-{
-    match unready_line(alloc, name, why) {
-        Ok(line) => printed(
-            alloc,
-            sink,
-            unready_status(why),
-            line.as_bytes(),
-            Context::new(alloc),
-        ),
-        Err(_) => without_memory(alloc),
+        Err(why) => print_unready(alloc, file.as_str(), &why, sink),
     }
 }
 
@@ -80,14 +61,14 @@ fn batch_files<K: Sink>(
 ) -> Finish
     requires named { is_module name.now ≡ true }
     ensures prints { Writes
-        (λ status out. FilesPrint spec.now name.now text.now bytes.now status out result.context.entries)
+        (λ status out. FilesPrint spec.now name.now text.now bytes.now status out result.context.entries result.context.labels)
         (K.state sink.old) (K.state sink.new) result.status }
     ensures legal { IsLegalIn (system_of text.now) result.context.entries }
     ensures order { result.order ≡ [] }
 {
     match system_in(alloc, text) {
         Ok(system) => batch_module(alloc, system, name, bytes, sink),
-        Err(why) => unready(alloc, spec, &why, sink),
+        Err(why) => print_unready(alloc, spec, &why, sink),
     }
 }
 
@@ -101,7 +82,7 @@ fn batch_module<K: Sink>(
 ) -> Finish
     requires named { is_module name.now ≡ true }
     ensures prints { Writes
-        (λ status out. ModulePrints system name.now bytes.now status out result.context.entries)
+        (λ status out. ModulePrints system name.now bytes.now status out result.context.entries result.context.labels)
         (K.state sink.old) (K.state sink.new) result.status }
     ensures legal { Legal system (bare_front result.context.entries) }
     ensures order { result.order ≡ [] }
@@ -147,6 +128,7 @@ fn print_batch<K: Sink>(alloc: Global, batch: Batch, sink: &mut K) -> Finish
     ensures prints { Writes (AnswerPrints (answer_seen batch))
         (K.state sink.old) (K.state sink.new) result.status }
     ensures context { result.context.entries ≡ batch.context.entries }
+    ensures labels { result.context.labels ≡ batch.context.labels }
     ensures order { result.order ≡ [] }
 {
     let Batch {

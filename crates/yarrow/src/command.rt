@@ -1,11 +1,11 @@
 // What the words ask for.
 
 ghost use Rattle.std.specs.Prelude.{◌≡◌, Some, None, map, string_bytes, MatchOption};
-ghost use Rattle.yarrow.specs.Commands.{command_of, command_seen, check_with, format_with, batch_with, is_module};
+ghost use Rattle.yarrow.specs.Commands.{command_of, command_seen, check_with, format_with, batch_with, replay_with, is_module};
 
 use pts_names::is_identifier;
 
-/// A command, with what stands after its word.
+/// A command, with what comes after its word.
 #[derive(Clone, Copy, Debug)]
 pub(crate) enum Command<'a> {
     /// `check`
@@ -14,6 +14,8 @@ pub(crate) enum Command<'a> {
     Format(&'a str),
     /// `batch SPEC MODULE`
     Batch(&'a str, &'a str),
+    /// `replay SPEC`
+    Replay(&'a str),
 }
 
 /// The command that the words are, or nothing where they have no form.
@@ -30,6 +32,7 @@ pub(crate) fn command_of(words: &[String]) -> Option<Command<'_>>
         "check" => check_with(rest),
         "format" => format_with(rest),
         "batch" => batch_with(rest),
+        "replay" => replay_with(rest),
         _ => None,
     }
 }
@@ -65,6 +68,17 @@ fn batch_with(words: &[String]) -> Option<Command<'_>>
         [word, name] if !word.is_empty() && is_module(name.as_str()) => {
             Some(Command::Batch(word.as_str(), name.as_str()))
         }
+        _ => None,
+    }
+}
+
+fn replay_with(words: &[String]) -> Option<Command<'_>>
+    ensures { MatchOption result
+        (replay_with (map string_bytes words.now) ≡ None)
+        (λ c. replay_with (map string_bytes words.now) ≡ Some (command_seen c)) }
+{
+    match words {
+        [word] if !word.is_empty() => Some(Command::Replay(word.as_str())),
         _ => None,
     }
 }

@@ -39,6 +39,7 @@ pub fn enter_all(
     declarations: Vec<Declaration>,
 ) -> Result<Entrance, AllocError>
     ensures entries { IfOk result (λ e. e.context.entries ≡ (enter_all system.now [] (map declared_of declarations.items)).entries) }
+    ensures labels { IfOk result (λ e. e.context.labels ≡ []) }
     ensures refusal { IfOk result (λ e. e.refusal ≡ (enter_all system.now [] (map declared_of declarations.items)).refusal) }
 {
     let mut context = Context::new(alloc);
@@ -66,6 +67,7 @@ fn enter(
     ensures refusal { IfOk result (λ r. r ≡ refusal_of system.now context.old.entries (declared_of declaration)) }
     ensures entered { result ≡ Ok None → context.new.entries ≡ context.old.entries ++ entry_of (declared_of declaration) ∷ [] }
     ensures kept { IfOk result (λ r. IsSome r → context.new.entries ≡ context.old.entries) }
+    ensures labels { context.new.labels ≡ context.old.labels }
     ensures spare { context.old.spare_entries ≤ context.new.spare_entries + 1 }
 {
     if let Some(refusal) = refusal_of(system, context, &declaration)? {

@@ -25,6 +25,7 @@ pub fn run_format<S: Source, K: Sink, L: Library>(
     ensures format { IsFormatRun name.now (L.state library.old) (L.state library.new)
         (S.state source.old) (S.state source.new) (K.state sink.old) (K.state sink.new) result.status }
     ensures context { result.context.entries ≡ [] }
+    ensures labels { result.context.labels ≡ [] }
     ensures order { result.order ≡ [] }
     ensures files { (L.state library.new).files ≡ (L.state library.old).files }
 {
@@ -50,6 +51,7 @@ fn format_source<S: Source, K: Sink>(
     ensures format { Writes (LinesPrint system.now.sorts (S.state source.old) (S.state source.new))
         (K.state sink.old) (K.state sink.new) result.status }
     ensures context { result.context.entries ≡ [] }
+    ensures labels { result.context.labels ≡ [] }
     ensures order { result.order ≡ [] }
 {
     match format_lines(alloc, system, source, sink, LIMIT as u32) {

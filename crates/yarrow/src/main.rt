@@ -1,7 +1,7 @@
 // The program: `check` reads a certificate from standard input and checks it, `format` reads terms and prints them, `batch`
-// checks the declarations of a module.
+// checks the declarations of a module, `replay` plays rounds of sessions that share one context.
 // It writes what the definition of the answer says, and the context that it hands back is legal.
-// Stands on the checker, the readers of certificates, specifications and terms, batches, and the outside.
+// Stands on the checker, the readers of certificates, specifications and terms, batches, sessions, and the outside.
 #![tactic(auto)]
 
 mod answer;
@@ -11,6 +11,7 @@ mod batches;
 mod command;
 mod enter;
 mod format;
+mod replay;
 mod run;
 mod system;
 #[cfg(test)]

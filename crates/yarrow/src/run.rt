@@ -9,6 +9,7 @@ use crate::answer::{Answer, answer_to};
 use crate::batch::run_batch;
 use crate::command::{Command, command_of};
 use crate::format::run_format;
+use crate::replay::run_replay;
 use pts_ctx::Context;
 use pts_io::{Library, Sink, Source, WholeFault, read_whole, write_whole};
 use pts_names::List;
@@ -17,7 +18,8 @@ use std::alloc::Global;
 /// How many bytes an input has at most.
 pub const LIMIT: usize = 16_777_216;
 
-/// What a run ends with: its status, the context that it built, and the order of the rounds, of which no command has any.
+/// What a run ends with: its status, the context that it built, and for each round that it played the order of its events,
+/// which are the numbers of their sessions.
 #[derive(Drop)]
 pub struct Finish {
     pub status: u8,
@@ -25,9 +27,9 @@ pub struct Finish {
     pub order: List<List<u32>>,
 }
 
-/// Runs the program with the words after its own name. The forms are `check`, `format SPEC` and `batch SPEC MODULE`, where
-/// SPEC is any word that isn't empty and MODULE is a plain name of at most 128 bytes; all other words print `usage`, with
-/// status 2, and take nothing from the source.
+/// Runs the program with the words after its own name. The forms are `check`, `format SPEC`, `batch SPEC MODULE` and
+/// `replay SPEC`, where SPEC is any word that isn't empty and MODULE is a plain name of at most 128 bytes; all other words
+/// print `usage`, with status 2, and take nothing from the source.
 pub fn run<S: Source, K: Sink, L: Library>(
     alloc: Global,
     words: &[String],
@@ -37,15 +39,15 @@ pub fn run<S: Source, K: Sink, L: Library>(
 ) -> Finish
     ensures run { IsRun (command_of (map string_bytes words.now))
         (L.state library.old) (L.state library.new) (S.state source.old) (S.state source.new)
-        (K.state sink.old) (K.state sink.new) result.status result.context.entries }
+        (K.state sink.old) (K.state sink.new) result.status result.order result.context.entries result.context.labels }
     ensures library { reads_files (command_of (map string_bytes words.now)) ≡ false → library.new ≡ library.old }
     ensures files { (L.state library.new).files ≡ (L.state library.old).files }
-    ensures order { result.order ≡ [] }
 {
     match command_of(words) {
         Some(Command::Check) => run_check(alloc, source, sink),
         Some(Command::Format(name)) => run_format(alloc, name, source, sink, library),
         Some(Command::Batch(spec, name)) => run_batch(alloc, spec, name, sink, library),
+        Some(Command::Replay(name)) => run_replay(alloc, name, source, sink, library),
         None => printed(alloc, sink, 2, b"usage\n", Context::new(alloc)),
     }
 }
@@ -53,7 +55,7 @@ pub fn run<S: Source, K: Sink, L: Library>(
 /// Reads a certificate from the source, whole, checks it over the empty context, and prints one line.
 pub fn run_check<S: Source, K: Sink>(alloc: Global, source: &mut S, sink: &mut K) -> Finish
     ensures check { IsCheckRun (S.state source.old) (S.state source.new)
-        (K.state sink.old) (K.state sink.new) result.status result.context.entries }
+        (K.state sink.old) (K.state sink.new) result.status result.context.entries result.context.labels }
     ensures order { result.order ≡ [] }
 {
     match read_whole(alloc, source, LIMIT) {
@@ -82,6 +84,7 @@ pub fn run_check<S: Source, K: Sink>(alloc: Global, source: &mut S, sink: &mut K
 pub(crate) fn without_memory(alloc: Global) -> Finish
     ensures status { result.status ≡ 7 }
     ensures context { result.context.entries ≡ [] }
+    ensures labels { result.context.labels ≡ [] }
     ensures order { result.order ≡ [] }
 {
     finished(alloc, 7)
@@ -91,6 +94,7 @@ pub(crate) fn without_memory(alloc: Global) -> Finish
 pub(crate) fn finished(alloc: Global, status: u8) -> Finish
     ensures status { result.status ≡ status }
     ensures context { result.context.entries ≡ [] }
+    ensures labels { result.context.labels ≡ [] }
     ensures order { result.order ≡ [] }
 {
     ended(alloc, status, Context::new(alloc))
@@ -100,6 +104,7 @@ pub(crate) fn finished(alloc: Global, status: u8) -> Finish
 pub(crate) fn ended(alloc: Global, status: u8, context: Context) -> Finish
     ensures status { result.status ≡ status }
     ensures context { result.context.entries ≡ context.entries }
+    ensures labels { result.context.labels ≡ context.labels }
     ensures order { result.order ≡ [] }
 {
     Finish {
@@ -119,6 +124,7 @@ pub(crate) fn printed<K: Sink>(
 ) -> Finish
     ensures status { PrintsLine status line.now (K.state sink.old) (K.state sink.new) result.status }
     ensures context { result.context.entries ≡ context.entries }
+    ensures labels { result.context.labels ≡ context.labels }
     ensures order { result.order ≡ [] }
 {
     let order = List::of(Vec::new(alloc));

@@ -1,11 +1,13 @@
-// The system that a command works in.
+// The system that a command works in, and the end of a run that has none.
 
-ghost use Rattle.std.specs.Prelude.{◌≡◌, Ok, IfOk, IfErr, string_bytes};
+ghost use Rattle.std.specs.Prelude.{◌≡◌, [], Ok, IfOk, IfErr, string_bytes};
 ghost use Rattle.pts_spec.specs.SpecFile.{system_of};
-ghost use Rattle.yarrow.specs.Systems.{IsRead, IsReady, IsUnready, IsUnread, RefusesFile, unready_line, unready_status};
+ghost use Rattle.yarrow.specs.Runs.{Writes};
+ghost use Rattle.yarrow.specs.Systems.{IsRead, IsReady, IsUnready, IsUnread, RefusesFile, UnreadyPrints, unready_line, unready_status};
 
-use pts_ctx::System;
-use pts_io::{Found, Library, ReadFail};
+use crate::run::{Finish, printed, without_memory};
+use pts_ctx::{Context, System};
+use pts_io::{Found, Library, ReadFail, Sink};
 use pts_spec::{SpecFault, read_system};
 use std::alloc::{AllocError, Global};
 
@@ -95,5 +97,30 @@ pub(crate) fn unready_line(alloc: Global, name: &str, why: &Unready) -> Result<S
         Unready::TooLong => format!(in alloc; "too long {name}\n"),
         Unready::Refused(fault) => format!(in alloc; "refused system {fault}\n"),
         Unready::NoMemory => Ok(String::new(alloc)),
+    }
+}
+
+/// The end of a run for which a file, or the system that it specifies, is not there.
+pub(crate) fn print_unready<K: Sink>(
+    alloc: Global,
+    name: &str,
+    why: &Unready,
+    sink: &mut K,
+) -> Finish
+    ensures prints { Writes (UnreadyPrints name.now why.now)
+        (K.state sink.old) (K.state sink.new) result.status }
+    ensures context { result.context.entries ≡ [] }
+    ensures labels { result.context.labels ≡ [] }
+    ensures order { result.order ≡ [] }
+{
+    match unready_line(alloc, name, why) {
+        Ok(line) => printed(
+            alloc,
+            sink,
+            unready_status(why),
+            line.as_bytes(),
+            Context::new(alloc),
+        ),
+        Err(_) => without_memory(alloc),
     }
 }

@@ -217,3 +217,44 @@ fn fails_behind_a_declaration(alloc: Global) -> Option<bool> {
 fn what_was_written_before_a_failure_is_a_whole_line(rt: HostRuntime) {
     assert!(rt; matches!(fails_behind_a_declaration(rt.alloc()), Some(true)));
 }
+
+fn replay_words(alloc: Global) -> Option<Vec<String>> {
+    let mut words = words_of(alloc, "replay")?;
+    words.push(String::from_str(alloc, "full").ok()?).ok()?;
+    Some(words)
+}
+
+fn replay_status(alloc: Global, input: &str, sink: &mut MemorySink) -> Option<u8> {
+    let words = replay_words(alloc)?;
+    let mut library = library_with(alloc, "")?;
+    let mut source = source_of(alloc, input).ok()?;
+    Some(run(alloc, &words, &mut source, sink, &mut library).status)
+}
+
+fn replays(alloc: Global, input: &str, output: &str) -> Option<bool> {
+    let mut sink = MemorySink::new(alloc, 1_000, Vec::new(alloc)).ok()?;
+    let status = replay_status(alloc, input, &mut sink)?;
+    Some(status == 0 && sink.bytes() == output.as_bytes())
+}
+
+/// Both sessions declare the same name, and the first commits it before the second looks, or after.
+#[test]
+fn a_round_is_played_in_the_order_that_is_asked_for(rt: HostRuntime) {
+    let input =
+        "@1 assume A : *\n@1 commit\n@2 look\n@2 assume A : *\n@2 commit\n@1 look\ngo 2 1 2 1\n";
+    let output =
+        "@1 assumed A : *\n@1 committed 0 1\n@1 seen 1\n@2 seen 0\n@2 assumed A : *\n@2 refused Clash A 0\norder 2 1 2 1\ndone 1\n";
+    assert!(rt; matches!(replays(rt.alloc(), input, output), Some(true)));
+    let input =
+        "@1 assume A : *\n@1 commit\n@2 look\n@2 assume A : *\n@2 commit\n@1 look\ngo 1 2 1 2\n";
+    let output =
+        "@1 assumed A : *\n@1 committed 0 1\n@1 seen 1\n@2 seen 1\n@2 refused Taken A 0\n@2 refused NothingToCommit\norder 1 2 1\ndone 1\n";
+    assert!(rt; matches!(replays(rt.alloc(), input, output), Some(true)));
+}
+
+#[test]
+fn lines_of_no_session_are_refused_at_once(rt: HostRuntime) {
+    let input = "@65 look\n@1\n@1 look\nend\n@1 look\n";
+    let output = "refused line 1\nrefused line 2\n@1 seen 0\norder 1\ndone 1\n";
+    assert!(rt; matches!(replays(rt.alloc(), input, output), Some(true)));
+}

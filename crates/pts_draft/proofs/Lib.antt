@@ -1,0 +1,5 @@
+pub mod Declaring
+pub mod Following
+pub mod Freeness
+pub mod Keeping
+pub mod Refusing

@@ -1,0 +1,5 @@
+use Rattle.std.proofs.Common.{◌≡◌, ◌++◌, drop}
+use Rattle.pts_draft.proofs.copies.copies_of.Given as goal
+
+abbrev pub invariant-loop-declaration : goal.invariant-loop-declaration
+invariant-loop-declaration l = l.copies.items ++ drop l.declaration-index l.declarations ≡ l.declarations

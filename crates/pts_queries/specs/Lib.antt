@@ -1,0 +1,6 @@
+pub mod Budgets
+pub mod Replies
+pub mod Reading
+pub mod Queries
+pub mod Inner
+pub mod Laws

@@ -1,0 +1,24 @@
+-- The terms of lines: names and sorts are looked up before all else.
+use Rattle.std.specs.Prelude.{◌≡◌, ℕ, List, [], Option, Some, None, is_some, if◌then◌else◌, Result, Ok, Err}
+use Rattle.pts_names.specs.Name.{Name}
+use Rattle.pts_terms.specs.Tree.{Named}
+use Rattle.pts_ctx.specs.Seen.{place_of}
+use Rattle.pts_grammar.specs.Syntax.{Syntax}
+use Rattle.pts_parser.specs.declared.fault.ReadFault.{ReadFault}
+use Rattle.pts_parser.specs.FaultText.{read_text}
+use Rattle.pts_parser.specs.Resolution.{resolved}
+use Rattle.pts_reduce_cost.specs.Costs.{Globals}
+use Rattle.pts_queries.specs.Replies.{refusal}
+
+-- The constant for which a name stands: the entry of the front that has this name.
+abbrev pub known_name : Globals → Name → Option Name
+known_name G x = if is_some (place_of x G) then Some x else None
+
+-- The term of a text over the front, or the first fault of a name or a sort from the left.
+abbrev pub term_over : (sorts : List (List ℕ)) → Globals → Syntax → Result Named ReadFault
+term_over sorts G T = resolved sorts (known_name G) [] T
+
+-- The line is what is said of the term; or the fault is refused.
+abbrev pub OnTerm : Result Named ReadFault → (Named → List ℕ → Type 0) → List ℕ → Type 0
+OnTerm (Ok t) says line = says t line
+OnTerm (Err e) says line = line ≡ refusal (read_text e)

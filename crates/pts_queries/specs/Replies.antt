@@ -1,0 +1,37 @@
+-- The texts of replies that hold terms, and of refusals.
+use Rattle.std.specs.Prelude.{ℕ, List, [], ◌++◌, codes, Option, Some, None}
+use Rattle.pts_names.specs.Name.{Name}
+use Rattle.pts_terms.specs.Tree.{Named}
+use Rattle.pts_ctx.specs.Front.{Global}
+use Rattle.pts_printed.specs.Locals.{printed}
+use Rattle.pts_flaw_text.specs.FlawText.{place_text}
+
+-- `refused`, and the name of the refusal with its values.
+abbrev pub refusal : (text : List ℕ) → List ℕ
+refusal text = codes "refused " ++ text
+
+-- The answer of a conversion test that found two forms that differ: `no PATH`.
+abbrev pub difference_line : (place : List ℕ) → List ℕ
+difference_line place = codes "no " ++ place_text place
+
+-- Terms are printed without locals.
+module _ (sorts : List (List ℕ)) where
+  -- `TERM : TYPE`
+  abbrev pub judgement_line : (t A : Named) → List ℕ
+  judgement_line t A = printed sorts [] t ++ (codes " : " ++ printed sorts [] A)
+
+  -- `NAME : TYPE`
+  abbrev pub entry_line : Global Name → List ℕ
+  entry_line e = e.name ++ (codes " : " ++ printed sorts [] e.type)
+
+  -- `assumed NAME : TYPE` and `defined NAME : TYPE`, by the word.
+  abbrev pub declared_line : (word : List ℕ) → Global Name → List ℕ
+  declared_line word e = word ++ (codes " " ++ entry_line e)
+
+  -- `NAME : TYPE` of an assumption, and `NAME := BODY : TYPE` of a definition.
+  abbrev pub shown_by : Name → Option Named → Named → List ℕ
+  shown_by x None A = x ++ (codes " : " ++ printed sorts [] A)
+  shown_by x (Some a) A = x ++ (codes " := " ++ (printed sorts [] a ++ (codes " : " ++ printed sorts [] A)))
+
+  abbrev pub shown_line : Global Name → List ℕ
+  shown_line e = shown_by e.name e.body e.type

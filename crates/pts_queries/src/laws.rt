@@ -1,0 +1,20 @@
+// The laws of lines that ask. Each is a function without a body that is never run: what it ensures is the law.
+ghost use Rattle.pts_queries.specs.Laws.{EqualHasOneAnswer, InferHasOneAnswer, ReduceHasOneAnswer};
+
+/// `infer TERM` has one answer at most.
+#[tactic(auto, using(crate::proofs::Once::infer_once))]
+pub fn infer_has_one_answer()
+    ensures { InferHasOneAnswer }
+{}
+
+/// `reduce TERM` has one answer at most.
+#[tactic(auto, using(crate::proofs::Once::reduce_once))]
+pub fn reduce_has_one_answer()
+    ensures { ReduceHasOneAnswer }
+{}
+
+/// `equal TERM ; TERM` has one answer at most.
+#[tactic(auto, using(crate::proofs::Once::equal_once))]
+pub fn equal_has_one_answer()
+    ensures { EqualHasOneAnswer }
+{}

@@ -1,0 +1,10 @@
+pub mod Answering
+pub mod Plain
+pub mod Inner
+pub mod Declared
+pub mod Doing
+pub mod Hearing
+pub mod Ran
+pub mod Moved
+pub mod Entering
+pub mod Listed

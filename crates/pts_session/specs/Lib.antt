@@ -1,0 +1,14 @@
+pub mod State
+pub mod Replies
+pub mod Declaring
+pub mod Lines
+pub mod Answers
+pub mod Laws
+pub mod Seen
+pub mod Players
+pub mod Ports
+pub mod Plain
+pub mod Tested
+pub mod Faults
+pub mod Moves
+pub mod Playing

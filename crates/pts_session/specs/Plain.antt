@@ -1,0 +1,10 @@
+-- The names that lines declare.
+use Rattle.std.specs.Prelude.{◌≡◌, true}
+use Rattle.pts_names.specs.Name.{is_plain}
+use Rattle.pts_lines.specs.Lines.{Line, of_type, definition}
+
+-- A name that the line declares is plain.
+abbrev pub NamesArePlain : Line → Type 0
+NamesArePlain (of_type c x A) = is_plain x ≡ true
+NamesArePlain (definition x A t) = is_plain x ≡ true
+NamesArePlain L = Unit {0}
