@@ -1,8 +1,10 @@
-//! Tests of rounds and of plays.
+//! Tests of rounds, of plays and of cores.
 //! They show that each call answers, and in a worked case what.
 //! No crate stands on it.
 #![tactic(auto)]
 
+#[cfg(test)]
+mod cores;
 #[cfg(test)]
 mod replays;
 #[cfg(test)]
