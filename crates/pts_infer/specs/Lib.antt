@@ -1,4 +1,3 @@
 pub mod Given
 pub mod Answered
 pub mod FaultText
-pub mod Works

@@ -8,7 +8,7 @@ ghost use Rattle.pts_record.specs.Said.{named_told, judgement, scope_of, is_judg
 ghost use Rattle.pts_rules.specs.Meter.{left};
 ghost use Rattle.pts_rules.specs.Valid.{IsValid};
 ghost use Rattle.pts_reduce_cost.specs.Laws.{WithinBudget};
-ghost use Rattle.pts_infer_cost.specs.Typing.{Infers, Sorts, SortTest, Fits, comes, inference_nesting};
+ghost use Rattle.pts_infer_cost.specs.Typing.{Infers, SortTest, Fits, comes, inference_nesting};
 ghost use Rattle.pts_grow.specs.Keeps.{Keeps, IsNode};
 ghost use Rattle.pts_grow.specs.Judges.{IsTypedContext, Judges};
 ghost use Rattle.pts_reduce.specs.Given.{Later};
@@ -16,8 +16,10 @@ ghost use Rattle.pts_reduce.specs.Chain.{entries_of};
 ghost use Rattle.pts_infer.specs.Answered.{Refused, Unfit};
 
 use crate::answer::{FitFault, InferFault};
-use crate::lent::{fit_in, infer_in, sort_test_in, sorted_in};
+use crate::fits::fit_in;
+use crate::inferring::infer_in;
 use crate::show::{show_fault, show_misfit};
+use crate::sort_tests::sort_test_in;
 use pts_ctx::{Context, System};
 use pts_grow::Judged;
 use pts_names::Name;
@@ -56,39 +58,6 @@ pub fn infer(
 {
     match infer_in(system, front, proof, ctx, term, NESTING, meter) {
         Ok(judged) => Ok(judged.node),
-        Err(fault) => Err(show_fault(proof, names, fault)),
-    }
-}
-
-/// The judgement of a term that has a sort as its type, in a context: inference with the sort test, at its cost. The
-/// names stand for the entries of the context, the outermost first; flaws show them.
-///
-/// # Errors
-///
-/// `Flaw` and `Deep` are the outcome of inference with the sort test. `Spent` comes exactly where the cost is above what
-/// the meter has left; the meter then is at its limit. `Memory`. After each of them the record has what it had, and is
-/// valid if it was.
-#[tactic(auto, using(pts_grow::proofs::Grow::keeping, pts_reduce::proofs::Paid::later, crate::proofs::Refusals::inferences))]
-pub fn infer_sorted(
-    system: &System,
-    front: &Context,
-    proof: &mut Record,
-    ctx: usize,
-    names: &[Name],
-    term: usize,
-    meter: &mut Meter,
-) -> Result<usize, InferFault>
-    requires ctx { ctx < length proof.old.nodes }
-    requires typed { IsTypedContext proof.old ctx }
-    requires term { term < length proof.old.shapes }
-    ensures judged { IfOk result (λ n. (s : ℕ) × WithinBudget (Sorts system.now front.now.entries inference_nesting (entries_of proof.old ctx) (named_at proof.old.shapes term)) (left meter.old) (comes s) (left meter.new) × IsNode proof.new n (judgement ctx (scope_of (named_told proof.old ctx)) (named_at proof.old.shapes term) (sort_term s))) }
-    ensures refused { IfErr result (λ e. Refused names.now (Sorts system.now front.now.entries inference_nesting (entries_of proof.old ctx) (named_at proof.old.shapes term)) e (left meter.old) (left meter.new)) }
-    ensures keeps { Keeps proof.old proof.new }
-    ensures valid { IsValid system.now (bare_front front.now.entries) proof.old → IsValid system.now (bare_front front.now.entries) proof.new }
-    ensures later { Later meter.old meter.new }
-{
-    match sorted_in(system, front, proof, ctx, term, NESTING, meter) {
-        Ok(sorted) => Ok(sorted.judged.node),
         Err(fault) => Err(show_fault(proof, names, fault)),
     }
 }

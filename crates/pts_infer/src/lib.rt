@@ -3,25 +3,29 @@
 //! Stands on reduction, on the definition of inference at its cost, and on judgements that are added to records.
 #![tactic(auto)]
 
+mod abstractions;
 mod answer;
+mod applications;
 mod calls;
 mod closing;
+mod definitions;
 mod fault;
+mod fits;
+mod functions;
+mod inferring;
 mod judgements;
-mod judging;
-mod lent;
+mod leaves;
 mod part;
-mod parts;
 mod pay;
-mod rules;
+mod products;
+mod reduced;
 mod show;
+mod sort_tests;
 mod terms;
 mod told;
-mod type_tests;
-mod work;
 
 pub use answer::{FitFault, Flaw, FlawKind, InferFault, Typed};
-pub use calls::{fit, infer, infer_sorted, sort_test};
+pub use calls::{fit, infer, sort_test};
 pub use part::Part;
 pub use pts_reduce::{Conversion, Meter, ReduceFault, Whnf, convert, whnf};
 pub use terms::{infer_fitted, infer_term, infer_type};

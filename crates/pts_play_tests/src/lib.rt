@@ -1,10 +1,8 @@
-//! Tests of rounds, of plays and of cores.
+//! Tests of rounds and of plays.
 //! They show that each call answers, and in a worked case what.
 //! No crate stands on it.
 #![tactic(auto)]
 
-#[cfg(test)]
-mod cores;
 #[cfg(test)]
 mod replays;
 #[cfg(test)]
