@@ -47,6 +47,7 @@ pub struct Session {
 }
 
 impl Session {
+    /// A session that has seen and assumed nothing, and that does not wait.
     pub fn new(alloc: Global) -> Session
         ensures { result.waits ≡ false }
     {
