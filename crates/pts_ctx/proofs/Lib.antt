@@ -1,9 +1,12 @@
 pub mod Begins
+pub mod Chains
 pub mod Clashes
 pub mod Equal
 pub mod Faults
 pub mod Find
 pub mod Flat
+pub mod Hashed
+pub mod Kept
 pub mod Known
 pub mod Labels
 pub mod Lookups

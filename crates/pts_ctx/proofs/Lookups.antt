@@ -1,5 +1,5 @@
 -- Look-ups in a front by the places of its names.
-use Rattle.std.proofs.Common.{take, drop, ◌+◌, subst, ◌≡◌, ℕ, zero, suc, ◌&&◌, ◌||◌, ◌<◌, IfSome, get_or, Bool, true, false, if◌then◌else◌, nat_eq, List, [], ◌∷◌, ◌++◌, map, length, position, slice_get, Option, Some, None, refl, sym, ap, ◌∙◌, arith}
+use Rattle.std.proofs.Common.{take, drop, ◌+◌, subst, ◌≡◌, ℕ, zero, suc, ◌&&◌, ◌||◌, IfSome, Bool, true, false, if◌then◌else◌, nat_eq, List, [], ◌∷◌, ◌++◌, map, length, position, slice_get, Option, Some, None, refl, sym, ap, ◌∙◌, arith}
 use Rattle.std.specs.List.{list_any}
 use Rattle.std.specs.Option.{option_map, option_and_then}
 use Rattle.std.specs.Cmp.Lexicographic.{pointwise}
@@ -160,6 +160,16 @@ within-left [] H all = refl
 within-left (e ∷ G) H all =
     let (here, rest) = both (global_within e) (globals_within (G ++ H)) all in
     λ j. here j && within-left G H rest j
+
+pub within-right : (G H : List (Global Name)) → globals_within (G ++ H) ≡ true → globals_within H ≡ true
+within-right [] H all = all
+within-right (e ∷ G) H all = within-right G H (both (global_within e) (globals_within (G ++ H)) all).1
+
+pub within-both : (G H : List (Global Name)) → globals_within G ≡ true → globals_within H ≡ true → globals_within (G ++ H) ≡ true
+within-both [] H left right = right
+within-both (e ∷ G) H left right =
+    let (here, rest) = both (global_within e) (globals_within G) left in
+    λ j. here j && within-both G H rest right j
 
 zero-plus : (n : ℕ) → n ≡ 0 + n
 zero-plus n = omega arith

@@ -4,7 +4,7 @@ use Rattle.std.specs.List.{AllByRecursion}
 use Rattle.std.specs.Option.{option_map}
 use Rattle.pts_terms.specs.declared.term.Sort.{Sort}
 use Rattle.pts_ctx.specs.System.{axiom_among, rule_among, AxiomBelow, RuleBelow}
-use Rattle.pts_ctx.specs.Tables.{table_at, square_at, TableOf, SquareOf, rule_line}
+use Rattle.pts_ctx.specs.Tables.{table_at, TableOf, SquareOf, rule_line}
 
 -- Two places in a table of rows of 64 are one where both the rows and the columns are.
 pub same-square : (s r t u : ℕ) → r < 64 → u < 64 → nat_eq (64 * s + r) (64 * t + u) ≡ (nat_eq s t && nat_eq r u)

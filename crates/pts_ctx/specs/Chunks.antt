@@ -6,6 +6,7 @@ use Rattle.pts_ctx.specs.declared.slot.Held.{Held}
 use Rattle.pts_ctx.specs.declared.slot.Held.TheVariants.{Own, Shared}
 use Rattle.pts_ctx.specs.Front.{Global}
 use Rattle.pts_ctx.specs.Entries.{global_of}
+use Rattle.pts_ctx.specs.Index.{hashes_of}
 use Rattle.pts_ctx.specs.Seen.{NamesDiffer, globals_within, LabelsInside}
 
 -- The entry of a slot.
@@ -17,6 +18,11 @@ held_global (Shared e) = global_of (arc_value e)
 pub record SeenPart : Type 0 where
   pub entries : List (Global Name)
   pub spare : ℕ
+
+-- What is sure of a part: its index has the hashes of its names, which differ.
+pub record IsPart (G : List (Global Name)) (hashes : List ℕ) : Type 0 where
+  pub hashed : hashes ≡ hashes_of G
+  pub names : NamesDiffer G
 
 -- The items of all lists, in order.
 abbrev pub flat : {A : Type 0} → List (List A) → List A

@@ -3,6 +3,7 @@ pub mod Front
 pub mod Seen
 pub mod Entries
 pub mod Chunks
+pub mod Index
 pub mod Tables
 pub mod Prefix
 pub mod Firsts

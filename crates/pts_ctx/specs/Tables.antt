@@ -1,8 +1,8 @@
 -- The tables by which a system finds its axioms and rules.
-use Rattle.std.specs.Prelude.{◌≡◌, ◌<◌, ℕ, ◌+◌, ◌*◌, List, nat_lt, Option, None, slice_get, if◌then◌else◌}
+use Rattle.std.specs.Prelude.{◌≡◌, ℕ, ◌+◌, ◌*◌, List, nat_lt, Option, None, slice_get, if◌then◌else◌}
 use Rattle.std.specs.Option.{option_map, option_and_then}
 use Rattle.pts_terms.specs.declared.term.Sort.{Sort}
-use Rattle.pts_ctx.specs.System.{axiom_among, rule_among, place_among}
+use Rattle.pts_ctx.specs.System.{axiom_among, rule_among}
 
 -- The places of the two sorts of an axiom, and of the three of a rule.
 abbrev pub axiom_places : Sort × Sort → ℕ × ℕ

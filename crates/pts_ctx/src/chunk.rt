@@ -3,6 +3,7 @@
 ghost use Rattle.std.specs.Prelude.{◌≡◌, ◌<◌, ◌≤◌, ◌++◌, length, take, Some, slice_get, IfOk};
 ghost use Rattle.pts_ctx.specs.Seen.{place_of, NamesDiffer};
 ghost use Rattle.pts_ctx.specs.Entries.{global_of};
+ghost use Rattle.pts_ctx.specs.Index.{hash_of, hashes_of};
 
 use crate::Entry;
 use crate::part::Part;
@@ -63,6 +64,14 @@ impl Chunk {
         used
     }
 
+    /// The hashes of their names.
+    pub fn hashes(&self) -> &[u32]
+        ensures { result.now ≡ hashes_of self.now }
+    {
+        let (used, _) = self.part.hashes().split_at(self.used);
+        used
+    }
+
     /// The entry at a place.
     pub fn entry(&self, place: usize) -> &Entry
         requires { place < length self.now }
@@ -71,11 +80,12 @@ impl Chunk {
         self.part.entry(place)
     }
 
-    /// The place of a name.
-    pub fn place_of(&self, name: &Name) -> Option<usize>
+    /// The place of a name with its hash.
+    pub fn place_of(&self, name: &Name, hash: u32) -> Option<usize>
+        requires { hash ≡ hash_of name.now }
         ensures { result ≡ place_of name.now self.now }
     {
-        match self.part.place_of(name) {
+        match self.part.place_of(name, hash) {
             Some(place) if place < self.used => Some(place),
             _ => None,
         }

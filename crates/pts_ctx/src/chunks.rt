@@ -1,9 +1,10 @@
 // Lists of chunks, the oldest first.
 
-ghost use Rattle.std.specs.Prelude.{◌≡◌, ◌-◌, ◌<◌, ◌≤◌, ◌++◌, length, take, drop, Some, slice_get, IfOk};
+ghost use Rattle.std.specs.Prelude.{◌≡◌, ◌-◌, ◌^◌, ◌<◌, ◌≤◌, ◌++◌, min, length, take, drop, Some, slice_get, IfOk, OnOk};
 ghost use Rattle.pts_ctx.specs.Seen.{place_of, NamesDiffer};
 ghost use Rattle.pts_ctx.specs.Entries.{global_of};
 ghost use Rattle.pts_ctx.specs.Chunks.{flat};
+ghost use Rattle.pts_ctx.specs.Index.{hash_of, hashes_of};
 
 use crate::Entry;
 use crate::chunk::Chunk;
@@ -28,8 +29,9 @@ pub fn entry_at(chunks: &[Chunk], place: usize) -> &Entry
     unreachable!()
 }
 
-/// The place of a name. The newest chunk, which is the shortest, is asked first.
-pub fn newest_place(chunks: &[Chunk], entries: usize, name: &Name) -> Option<usize>
+/// The place of a name with its hash. The newest chunk, which is the shortest, is asked first.
+pub fn newest_place(chunks: &[Chunk], entries: usize, name: &Name, hash: u32) -> Option<usize>
+    requires hash { hash ≡ hash_of name.now }
     requires count { entries ≡ length (flat chunks.now) }
     requires differ { NamesDiffer (flat chunks.now) }
     ensures { result ≡ place_of name.now (flat chunks.now) }
@@ -40,7 +42,7 @@ pub fn newest_place(chunks: &[Chunk], entries: usize, name: &Name) -> Option<usi
         before -= 1;
         let chunk = &chunks[before];
         start -= chunk.len();
-        if let Some(place) = chunk.place_of(name) {
+        if let Some(place) = chunk.place_of(name, hash) {
             return Some(start + place);
         }
     }
@@ -58,7 +60,7 @@ pub fn share_chunks(alloc: Global, chunks: &[Chunk]) -> Result<Vec<Chunk>, Alloc
     Ok(all)
 }
 
-/// The chunk from which all are to be one when this many entries are added, so that each chunk has at least twice as many
+/// The chunk from which all are to be one when this many entries are added, so that each chunk has at least four times as many
 /// entries as the next.
 pub fn join_from(chunks: &[Chunk], entries: usize) -> usize
     ensures { result ≤ length chunks.now }
@@ -67,7 +69,7 @@ pub fn join_from(chunks: &[Chunk], entries: usize) -> usize
     let mut joined = entries;
     while from > 0 {
         let len = chunks[from - 1].len();
-        if len / 2 >= joined {
+        if len / 4 >= joined {
             return from;
         }
         joined = joined.saturating_add(len);
@@ -76,17 +78,59 @@ pub fn join_from(chunks: &[Chunk], entries: usize) -> usize
     from
 }
 
-/// A part with all these entries.
-pub fn join(alloc: Global, chunks: &[Chunk], slots: &[Slot]) -> Result<Part, AllocError>
+/// How many entries the chunks have, or the greatest number.
+fn count(chunks: &[Chunk]) -> usize
+    ensures { result ≡ min (length (flat chunks.now)) (2 ^ 64 - 1) }
+{
+    let mut entries: usize = 0;
+    for chunk in chunks {
+        entries = entries.saturating_add(chunk.len());
+    }
+    entries
+}
+
+/// A part with all these entries, the last of which have these hashes.
+pub fn join(
+    alloc: Global,
+    chunks: &[Chunk],
+    slots: &[Slot],
+    hashes: &[u32],
+) -> Result<Part, AllocError>
     requires differ { NamesDiffer (flat chunks.now ++ slots.now) }
+    requires hashes { hashes.now ≡ hashes_of slots.now }
     ensures { IfOk result (λ p. p.entries ≡ flat chunks.now ++ slots.now) }
 {
     let mut part = Part::new(alloc);
-    for chunk in chunks {
-        part.add(alloc, chunk.slots())?;
-    }
-    part.add(alloc, slots)?;
+    part.reserve(alloc, count(chunks).saturating_add(slots.len()))?;
+    add_from(alloc, &mut part, chunks, 0)?;
+    part.add(alloc, slots, hashes)?;
     Ok(part)
+}
+
+/// Adds copies of the entries of the chunks from a place on. Where memory runs out, the old ones are still the first.
+pub fn add_from(
+    alloc: Global,
+    part: &mut Part,
+    chunks: &[Chunk],
+    from: usize,
+) -> Result<(), AllocError>
+    requires differ { NamesDiffer (part.old.entries ++ drop from (flat chunks.now)) }
+    ensures added { OnOk result (part.new.entries ≡ part.old.entries ++ drop from (flat chunks.now)) }
+    ensures kept { take (length part.old.entries) part.new.entries ≡ part.old.entries }
+{
+    let mut skipped = from;
+    for chunk in chunks {
+        let len = chunk.len();
+        if skipped >= len {
+            skipped -= len;
+            continue;
+        }
+        let (_, slots) = chunk.slots().split_at(skipped);
+        let (_, hashes) = chunk.hashes().split_at(skipped);
+        part.add(alloc, slots, hashes)?;
+        skipped = 0;
+    }
+    Ok(())
 }
 
 /// Takes this many last entries off.

@@ -1,6 +1,6 @@
 // Contexts: entries and labels, found by their names.
 
-ghost use Rattle.std.specs.Prelude.{◌↔◌, IsTrue, IfOk, ◌≡◌, ◌+◌, ◌-◌, ◌<◌, ◌≤◌, ◌++◌, ◌∷◌, [], length, take, drop, true, None, Some, slice_get, IfSome, IfErr, OnOk};
+ghost use Rattle.std.specs.Prelude.{◌↔◌, IsTrue, IfOk, ◌≡◌, ◌+◌, ◌-◌, ◌<◌, ◌≤◌, ◌++◌, ◌∷◌, [], length, take, drop, true, None, Some, slice_get, IfSome, IfErr, OnOk, OnErr};
 ghost use Rattle.std.specs.Option.{option_map, option_copied};
 ghost use Rattle.pts_ctx.specs.Front.{Fresh, find};
 ghost use Rattle.pts_ctx.specs.Seen.{place_of, label_place, global_within, globals_within, NamesDiffer, LabelsInside, IsFrontOf};
@@ -10,7 +10,8 @@ ghost use Rattle.pts_ctx.specs.Chunks.{flat};
 
 use crate::Entry;
 use crate::chunk::Chunk;
-use crate::chunks::{cut, entry_at, join, join_from, newest_place, share_chunks};
+use crate::chunks::{add_from, cut, entry_at, join, join_from, newest_place, share_chunks};
+use crate::index::hash_of;
 use crate::part::Part;
 use crate::slot::Slot;
 use indexmap::IndexMap;
@@ -96,9 +97,10 @@ impl Context {
         ensures entry { IfSome result (λ k. slice_get self.now.entries k ≡ find name.now self.now.entries) }
         ensures fresh { (result ≡ None) ↔ Fresh name.now self.now.entries }
     {
-        match self.last.place_of(name) {
+        let hash = hash_of(name);
+        match self.last.place_of(name, hash) {
             Some(place) => Some(self.older + place),
-            None => newest_place(&self.chunks, self.older, name),
+            None => newest_place(&self.chunks, self.older, name, hash),
         }
     }
 
@@ -145,7 +147,7 @@ impl Context {
     {
         let chunks = share_chunks(self.alloc, &self.chunks)?;
         let mut last = Part::new(self.alloc);
-        last.add(self.alloc, self.last.slots())?;
+        last.add(self.alloc, self.last.slots(), self.last.hashes())?;
         let labels = copy_labels(self.alloc, &self.labels)?;
         Ok(Context {
             chunks,
@@ -171,11 +173,11 @@ impl Context {
         if self.last.len() >= 2 * STEP {
             self.older += move_out(self.alloc, &mut self.chunks, &mut self.last)?;
         }
-        self.last.reserve(entries)?;
+        self.last.reserve(self.alloc, entries)?;
         self.labels.reserve(labels)
     }
 
-    /// Adds an entry after the others. It takes no memory: the context keeps `key` to find the entry by its name.
+    /// Adds an entry, whose name is `key`, after the others. It takes no memory.
     pub fn push(&mut self, entry: Entry, key: Name)
         requires fresh { Fresh entry.name self.old.entries }
         requires key { key ≡ entry.name }
@@ -186,7 +188,52 @@ impl Context {
         ensures spare_entries { self.old.spare_entries ≤ self.new.spare_entries + 1 }
         ensures spare_labels { self.new.spare_labels ≡ self.old.spare_labels }
     {
-        self.last.push(Slot::new(entry), key);
+        self.last.push(Slot::new(entry), hash_of(&key));
+    }
+
+    /// Adds the entries of another context from a place on after the others. The two share them.
+    ///
+    /// # Errors
+    ///
+    /// Where memory runs out, the entries are the old ones.
+    pub fn extend_from(&mut self, other: &mut Context, from: usize) -> Result<(), AllocError>
+        requires inside { from ≤ length other.old.entries }
+        requires differ { NamesDiffer (self.old.entries ++ drop from other.old.entries) }
+        ensures entries { OnOk result (self.new.entries ≡ self.old.entries ++ drop from other.old.entries) }
+        ensures refused { OnErr result (self.new.entries ≡ self.old.entries) }
+        ensures labels { self.new.labels ≡ self.old.labels }
+        ensures other { other.new ≡ other.old }
+    {
+        self.reserve(other.len() - from, 0)?;
+        other.share();
+        self.take_over(other, from)
+    }
+
+    /// From now on copies share its entries, unless memory runs out.
+    fn share(&mut self)
+        ensures { self.new ≡ self.old }
+    {
+        self.last.share(self.alloc);
+    }
+
+    /// Adds copies of the entries of another context from a place on, for which there is room.
+    fn take_over(&mut self, other: &Context, from: usize) -> Result<(), AllocError>
+        requires inside { from ≤ length other.now.entries }
+        requires differ { NamesDiffer (self.old.entries ++ drop from other.now.entries) }
+        requires room { length other.now.entries - from ≤ self.old.spare_entries }
+        ensures entries { OnOk result (self.new.entries ≡ self.old.entries ++ drop from other.now.entries) }
+        ensures refused { OnErr result (self.new.entries ≡ self.old.entries) }
+        ensures labels { self.new.labels ≡ self.old.labels }
+    {
+        other.is_orderly();
+        let own = self.last.len();
+        match add_entries(self.alloc, &mut self.last, other, from) {
+            Ok(()) => Ok(()),
+            Err(error) => {
+                self.last.truncate(own);
+                Err(error)
+            }
+        }
     }
 
     /// Takes this many last entries off. It takes no memory, and in the last part it takes no time that grows with the
@@ -262,6 +309,25 @@ fn is_one_label(label: &Name, entries: usize, other_label: &Name, other_entries:
     label.same(other_label) && entries == other_entries
 }
 
+/// Adds copies of the entries of a context from a place on. Where memory runs out, the old ones are still the first.
+fn add_entries(
+    alloc: Global,
+    part: &mut Part,
+    other: &Context,
+    from: usize,
+) -> Result<(), AllocError>
+    requires inside { from ≤ length other.now.entries }
+    requires differ { NamesDiffer (part.old.entries ++ drop from other.now.entries) }
+    ensures added { OnOk result (part.new.entries ≡ part.old.entries ++ drop from other.now.entries) }
+    ensures kept { take (length part.old.entries) part.new.entries ≡ part.old.entries }
+{
+    add_from(alloc, part, &other.chunks, from)?;
+    let first = from.saturating_sub(other.older);
+    let (_, slots) = other.last.slots().split_at(first);
+    let (_, hashes) = other.last.hashes().split_at(first);
+    part.add(alloc, slots, hashes)
+}
+
 /// Moves the oldest entries of the last part into a chunk, with those of the chunks that are joined, and answers how many
 /// these were.
 fn move_out(alloc: Global, chunks: &mut Vec<Chunk>, last: &mut Part) -> Result<usize, AllocError>
@@ -277,7 +343,8 @@ fn move_out(alloc: Global, chunks: &mut Vec<Chunk>, last: &mut Part) -> Result<u
     let from = join_from(chunks, moved);
     let (_, joined) = chunks.split_at(from);
     let (oldest, _) = last.slots().split_at(moved);
-    let chunk = Chunk::new(alloc, join(alloc, joined, oldest)?)?;
+    let (hashes, _) = last.hashes().split_at(moved);
+    let chunk = Chunk::new(alloc, join(alloc, joined, oldest, hashes)?)?;
     chunks.truncate(from);
     match chunks.push(chunk) {
         Ok(()) => {}

@@ -1,6 +1,6 @@
 // Systems of sorts, axioms and rules, and contexts of assumptions and definitions.
 // A system that was made is exactly the written one, and the first fault of another is named; a context is a list.
-// It stands on the terms and names below it, and finds names by `indexmap`.
+// It stands on the terms and names below it, and finds labels by `indexmap`.
 #![tactic(auto)]
 
 mod chunk;
@@ -8,6 +8,7 @@ mod chunks;
 mod context;
 mod entry;
 mod firsts;
+mod index;
 mod part;
 mod places;
 mod slot;

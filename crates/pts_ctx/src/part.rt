@@ -4,10 +4,11 @@ ghost use Rattle.std.specs.Prelude.{◌≡◌, ◌+◌, ◌<◌, ◌≤◌, ◌+
 ghost use Rattle.pts_ctx.specs.Front.{Fresh};
 ghost use Rattle.pts_ctx.specs.Seen.{place_of, NamesDiffer};
 ghost use Rattle.pts_ctx.specs.Entries.{global_of};
+ghost use Rattle.pts_ctx.specs.Index.{hash_of, hashes_of};
 
 use crate::Entry;
+use crate::index::Index;
 use crate::slot::Slot;
-use indexmap::IndexSet;
 use pts_terms::Name;
 use std::alloc::{AllocError, Global};
 use std::marker::Model;
@@ -16,23 +17,22 @@ use std::marker::Model;
 #[derive(Drop)]
 pub struct Part {
     slots: Vec<Slot>,
-    names: IndexSet<Name>,
+    index: Index,
 }
 
 impl Model for Part {
-    ghost use Rattle.std.specs.Prelude.{◌≡◌, ◌-◌, map, min, vec_len, vec_capacity};
+    ghost use Rattle.std.specs.Prelude.{◌-◌, min, vec_len, vec_capacity};
     ghost use Rattle.std.specs.Coded.{codes};
-    ghost use Rattle.indexmap.specs.IndexSet.{spare};
     ghost use Rattle.pts_terms.specs.Code.{coded_tree};
-    ghost use Rattle.pts_ctx.specs.Chunks.{SeenPart};
+    ghost use Rattle.pts_ctx.specs.Chunks.{SeenPart, IsPart};
 
     ghost Value = { SeenPart };
 
     ghost coded = { Prim.hlevel (codes, coded_tree) };
 
-    ghost view = { λ p. record { entries = p.slots.items; spare = min (vec_capacity p.slots - vec_len p.slots) (spare p.names) } };
+    ghost view = { λ p. record { entries = p.slots.items; spare = min (vec_capacity p.slots - vec_len p.slots) p.index.spare } };
 
-    ghost invariant = { λ p. p.names.keys ≡ map (λ e. e.name) p.slots.items };
+    ghost invariant = { λ p. IsPart p.slots.items p.index.hashes };
 }
 
 impl Part {
@@ -42,7 +42,7 @@ impl Part {
     {
         Part {
             slots: Vec::new(alloc),
-            names: IndexSet::new(alloc),
+            index: Index::new(alloc),
         }
     }
 
@@ -60,6 +60,13 @@ impl Part {
         self.slots.as_slice()
     }
 
+    /// The hashes of their names.
+    pub fn hashes(&self) -> &[u32]
+        ensures { result.now ≡ hashes_of self.now.entries }
+    {
+        self.index.hashes()
+    }
+
     /// The entry at a place.
     pub fn entry(&self, place: usize) -> &Entry
         requires { place < length self.now.entries }
@@ -68,50 +75,54 @@ impl Part {
         self.slots[place].entry()
     }
 
-    /// The place of a name.
-    pub fn place_of(&self, name: &Name) -> Option<usize>
+    /// The place of a name with its hash.
+    pub fn place_of(&self, name: &Name, hash: u32) -> Option<usize>
+        requires { hash ≡ hash_of name.now }
         ensures { result ≡ place_of name.now self.now.entries }
     {
-        self.names.get_index_of(name)
+        let mut after = self.index.last(hash);
+        while after > 0 {
+            let place = after - 1;
+            if name.same(&self.slots[place].entry().name) {
+                return Some(place);
+            }
+            after = self.index.last_before(place);
+        }
+        None
     }
 
     /// Makes room for this many more entries.
-    pub fn reserve(&mut self, entries: usize) -> Result<(), AllocError>
+    pub fn reserve(&mut self, alloc: Global, entries: usize) -> Result<(), AllocError>
         ensures entries { self.new.entries ≡ self.old.entries }
         ensures room { OnOk result (entries ≤ self.new.spare) }
         ensures spare { self.old.spare ≤ self.new.spare }
     {
         self.slots.reserve(entries)?;
-        self.names.reserve(entries)
+        self.index.reserve(alloc, entries)
     }
 
-    /// Adds an entry after the others. It takes no memory.
-    pub fn push(&mut self, slot: Slot, key: Name)
+    /// Adds an entry with the hash of its name after the others. It takes no memory.
+    pub fn push(&mut self, slot: Slot, hash: u32)
         requires fresh { Fresh slot.name self.old.entries }
-        requires key { key ≡ slot.name }
+        requires hash { hash ≡ hash_of slot.name }
         requires room { 0 < self.old.spare }
         ensures entries { self.new.entries ≡ self.old.entries ++ slot ∷ [] }
         ensures spare { self.old.spare ≤ self.new.spare + 1 }
     {
-        match self.names.insert(key) {
-            Ok(_) => {}
-            Err(_) => unreachable!(),
-        }
-        match self.slots.push(slot) {
-            Ok(()) => {}
-            Err(_) => unreachable!(),
-        }
+        self.index.push(hash);
+        self.slots.push_reserved(slot);
     }
 
-    /// Adds copies of these entries.
-    pub fn add(&mut self, alloc: Global, slots: &[Slot]) -> Result<(), AllocError>
+    /// Adds copies of these entries, which have these hashes. Where memory runs out, the old ones are still the first.
+    pub fn add(&mut self, alloc: Global, slots: &[Slot], hashes: &[u32]) -> Result<(), AllocError>
         requires differ { NamesDiffer (self.old.entries ++ slots.now) }
-        ensures { OnOk result (self.new.entries ≡ self.old.entries ++ slots.now) }
+        requires hashes { hashes.now ≡ hashes_of slots.now }
+        ensures added { OnOk result (self.new.entries ≡ self.old.entries ++ slots.now) }
+        ensures kept { take (length self.old.entries) self.new.entries ≡ self.old.entries }
     {
-        self.reserve(slots.len())?;
-        for slot in slots {
-            let key = slot.entry().name.copy()?;
-            self.push(slot.copy(alloc)?, key);
+        self.reserve(alloc, slots.len())?;
+        for place in 0..slots.len() {
+            self.push(slots[place].copy(alloc)?, hashes[place]);
         }
         Ok(())
     }
@@ -128,7 +139,7 @@ impl Part {
         ensures entries { self.new.entries ≡ take entries self.old.entries }
         ensures spare { self.old.spare ≤ self.new.spare }
     {
-        self.names.truncate(entries);
+        self.index.truncate(entries);
         self.slots.truncate(entries);
     }
 
@@ -138,7 +149,7 @@ impl Part {
         ensures entries { self.new.entries ≡ drop entries self.old.entries }
         ensures spare { self.old.spare ≤ self.new.spare }
     {
-        self.names.drain(..entries);
+        self.index.drop_first(entries);
         self.slots.drain(..entries);
     }
 }

@@ -1,30 +1,29 @@
-use Rattle.std.proofs.Common.{◌≡◌, ◌∙◌, ◌+◌, ◌++◌, sym, refl, subst, length, take, drop, List}
-use Rattle.std.proofs.lemmas.Option.{slice_get_read}
+use Rattle.std.proofs.Common.{◌≡◌, ◌∙◌, [], ◌++◌, sym, ap, subst, List}
 use Rattle.pts_names.specs.Name.{Name}
 use Rattle.pts_ctx.specs.Front.{Global}
 use Rattle.pts_ctx.specs.Chunks.{flat}
 use Rattle.pts_ctx.specs.Seen.{NamesDiffer}
-use Rattle.pts_ctx.proofs.Flat.{flat-next, flat-split}
 use Rattle.pts_ctx.proofs.Lookups.{differ-left}
 use Rattle.pts_ctx.proofs.chunks.join.Goals as goal
 
-pub add-requires : goal.add-requires
-add-requires c =
-    let lists = c.args.chunks.now in
-    let i = c.loop-chunk.chunk-index in
-    let G = c.chunk-item.result in
-    let at = slice_get_read lists (length lists) i G refl c.loop-chunk-test.true c.chunk-item.is in
-    let A = flat (take i lists) in
-    let all = subst NamesDiffer (flat-split lists i G at) (differ-left (flat lists) c.args.slots.now c.requires.differ) in
-    let here = differ-left (A ++ G) (flat (drop (i + 1) lists)) all in
+pub add_from-requires : goal.add_from-requires
+add_from-requires c =
+    let all = flat c.args.chunks.now in
+    let none : c.reserve.new.self.entries ≡ [] = c.reserve.ensures.entries ∙ c.new-part.ensures in
     record {
-      differ = subst NamesDiffer (λ j. sym c.loop-chunk.invariant j ++ sym c.slots.ensures j) here;
+      differ = subst (λ (ys : List (Global Name)). NamesDiffer (ys ++ all)) (sym none) (differ-left all c.args.slots.now c.requires.differ);
     }
 
-pub loop-chunk-preserved : goal.loop-chunk-preserved
-loop-chunk-preserved c =
-    let lists = c.args.chunks.now in
-    let i = c.loop-chunk.chunk-index in
-    let G = c.chunk-item.result in
-    let at = slice_get_read lists (length lists) i G refl c.loop-chunk-test.true c.chunk-item.is in
-    c.in_ok-add.ensures ∙ ((λ j. c.loop-chunk.invariant j ++ c.slots.ensures j) ∙ sym (flat-next lists i G at))
+pub add-requires-clause-differ : goal.add-requires-clause-differ
+add-requires-clause-differ c =
+    let all = flat c.args.chunks.now in
+    let none : c.reserve.new.self.entries ≡ [] = c.reserve.ensures.entries ∙ c.new-part.ensures in
+    let added : c.add_from.new.part.entries ≡ all = c.in_ok-add_from.ensures.added ∙ ap (λ ys. ys ++ all) none in
+    subst (λ (ys : List (Global Name)). NamesDiffer (ys ++ c.args.slots.now)) (sym added) c.requires.differ
+
+pub returns : goal.returns
+returns c =
+    let all = flat c.args.chunks.now in
+    let none : c.reserve.new.self.entries ≡ [] = c.reserve.ensures.entries ∙ c.new-part.ensures in
+    let added : c.add_from.new.part.entries ≡ all = c.in_ok-add_from.ensures.added ∙ ap (λ ys. ys ++ all) none in
+    c.in_ok-add.ensures.added ∙ ap (λ ys. ys ++ c.args.slots.now) added

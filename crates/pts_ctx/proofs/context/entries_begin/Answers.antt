@@ -1,4 +1,4 @@
-use Rattle.std.proofs.Common.{◌≡◌, ◌∙◌, ◌+◌, ◌<◌, ◌≤◌, ◌&&◌, sym, ap, length, drop, arith}
+use Rattle.std.proofs.Common.{◌∙◌, ◌+◌, ◌<◌, ◌≤◌, ◌&&◌, sym, ap, length, drop, arith}
 use Rattle.pts_ctx.specs.Entries.{global_of}
 use Rattle.pts_ctx.specs.Prefix.{begins, same_global}
 use Rattle.pts_ctx.proofs.Begins.{begins-short, begins-step}

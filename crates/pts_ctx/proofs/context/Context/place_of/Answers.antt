@@ -1,4 +1,4 @@
-use Rattle.std.proofs.Common.{◌≡◌, ◌∙◌, ◌+◌, ◌++◌, sym, ap, subst, List, Some, None}
+use Rattle.std.proofs.Common.{◌∙◌, ◌+◌, sym, ap, subst, List, Some}
 use Rattle.pts_names.specs.Name.{Name}
 use Rattle.pts_ctx.specs.Front.{Global}
 use Rattle.pts_ctx.specs.Seen.{place_of, NamesDiffer}

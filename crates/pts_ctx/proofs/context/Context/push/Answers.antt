@@ -4,6 +4,7 @@ use Rattle.pts_names.specs.Name.{Name}
 use Rattle.pts_ctx.specs.Front.{Global, Fresh}
 use Rattle.pts_ctx.specs.Seen.{SeenContext}
 use Rattle.pts_ctx.specs.Entries.{global_of}
+use Rattle.pts_ctx.specs.Index.{hash_of}
 use Rattle.pts_ctx.specs.Chunks.{flat, IsOrderly}
 use Rattle.pts_ctx.proofs.Lookups.{fresh-right}
 use Rattle.pts_ctx.proofs.Orderly.{orderly-push}
@@ -15,6 +16,10 @@ push-requires-clause-fresh c =
     let L = c.self.inside.last.entries in
     let fresh = subst (λ (s : SeenContext). Fresh c.args.entry.name s.entries) (sym c.self.view_is) c.requires.fresh in
     subst (λ (x : Name). Fresh x L) (sym (ap (λ e. e.name) c.new.ensures)) (fresh-right c.args.entry.name F L fresh)
+
+pub push-requires-clause-hash : goal.push-requires-clause-hash
+push-requires-clause-hash c =
+    c.hash_of.ensures ∙ ap hash_of (c.requires.key ∙ ap (λ e. e.name) (sym c.new.ensures))
 
 pub invariant_of-self : goal.invariant_of-self
 invariant_of-self c =

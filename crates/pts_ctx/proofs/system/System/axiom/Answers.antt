@@ -1,4 +1,4 @@
-use Rattle.std.proofs.Common.{◌≡◌, ◌∙◌, ap, subst, length, map}
+use Rattle.std.proofs.Common.{◌∙◌, ap, subst, length}
 use Rattle.std.specs.List.{AllByRecursion}
 use Rattle.pts_ctx.specs.System.{Specification, axiom_of, AxiomBelow}
 use Rattle.pts_ctx.specs.Tables.{table_at}

@@ -1,4 +1,4 @@
-use Rattle.std.proofs.Common.{◌≡◌, ◌+◌, ◌*◌, ◌∙◌, sym, ap, subst, cond, length, lt-ltb, le-ltb, None}
+use Rattle.std.proofs.Common.{◌+◌, ◌*◌, ◌∙◌, sym, ap, subst, cond, length, lt-ltb, le-ltb, None}
 use Rattle.std.specs.List.{AllByRecursion}
 use Rattle.pts_ctx.specs.System.{Specification, rule_of, RuleBelow}
 use Rattle.pts_ctx.specs.Tables.{table_at}
