@@ -6,6 +6,7 @@ pub mod Linked
 pub mod Looked
 pub mod Named
 pub mod Parts
+pub mod RenamedTables
 pub mod Told
 pub mod Trees
 pub mod Values

@@ -1,3 +1,4 @@
 pub mod Table
 pub mod Said
 pub mod Kept
+pub mod Renaming

@@ -11,6 +11,7 @@ mod links;
 mod measure;
 mod packed;
 mod record;
+mod renaming;
 mod shape;
 mod tree;
 
@@ -19,4 +20,5 @@ pub use entry::{LocalEntry, Terms};
 pub use measure::Measure;
 pub use pts_ctx::{Boxed, Name, Sort, Term};
 pub use record::Record;
+pub use renaming::Names;
 pub use shape::{Extent, Form, FormKind, Node, RecordFault, Shape};

@@ -1,15 +1,17 @@
 // A record: its two tables, and what is kept beside their lines.
 
-ghost use Rattle.std.specs.Prelude.{◌≡◌, ◌<◌, ◌≤◌, ◌++◌, ◌∷◌, [], length, take, slice_get, Some, None, OnOk, OnErr, IfOk, IfErr, IfSome};
+ghost use Rattle.std.specs.Prelude.{◌≡◌, ◌<◌, ◌≤◌, ◌++◌, ◌∷◌, [], length, take, slice_get, Some, None, OnOk, OnErr, IfOk, IfErr, IfSome, All, true};
 ghost use Rattle.std.specs.Option.{option_map};
 ghost use Rattle.pts_terms.specs.Tree.{bare, same_term};
-ghost use Rattle.pts_terms.specs.Limits.{depth_of, size_of};
-ghost use Rattle.pts_record.specs.Table.{Tables, bare_trees, bare_at, named_at, named_trees, unfold_shape, no_name, the_name, AllBelow, NodesLinked, shape_links, node_links, term_links, term_fault, node_fault, kept_node, UnlessMemory, measure};
+ghost use Rattle.pts_terms.specs.Limits.{depth_of, size_of, within};
+ghost use Rattle.pts_record.specs.Table.{Tables, bare_trees, bare_at, named_at, named_trees, unfold_shape, no_name, the_name, AllBelow, NodesLinked, shape_links, node_links, term_links, term_fault, node_fault, kept_node, UnlessMemory, measure, ShapesLinked};
+ghost use Rattle.pts_record.specs.Renaming.{renamed_record};
 ghost use Rattle.pts_record.specs.Said.{told, named_told, say_as, row_of_node, scope_of, extent, is_judgement, statement_of};
 
 use crate::hints::{Hints, node_key, term_key};
 use crate::links::{context_fault, kept, part_fault, premise_fault, terms_fault};
 use crate::packed::Packed;
+use crate::renaming::{Names, rename_shapes};
 use crate::shape::copy_shapes;
 use crate::{Extent, Form, FormKind, Measure, Node, RecordFault, Shape, Terms};
 use pts_ctx::Term;
@@ -252,6 +254,44 @@ impl Record {
         self.measures.shrink_to_fit();
         self.nodes.shrink_to_fit();
         self.extents.shrink_to_fit();
+    }
+
+    /// The same record with new names for its constants, without hints. Its nodes, printed names and numbers stay; only
+    /// the lines of constants are written. Where the record is to stay, a copy is renamed.
+    pub fn renamed<N: Names>(self, names: &N) -> Result<Record, AllocError>
+        ensures { IfOk result (λ r. r ≡ renamed_record (N.new_name names.now) self) }
+    {
+        let Record {
+            alloc,
+            shapes,
+            measures,
+            nodes,
+            extents,
+            ..
+        } = self;
+        let shapes = rename_shapes(alloc, shapes, names)?;
+        Ok(Record {
+            alloc,
+            shapes,
+            measures,
+            nodes,
+            extents,
+            hints: Hints::new(alloc),
+        })
+    }
+
+    /// Each term is linked to earlier terms. This is said, and nothing is done.
+    pub fn shapes_linked(&self)
+        ensures { ShapesLinked 0 self.now.shapes }
+    {
+        let _ = &self.alloc;
+    }
+
+    /// Each term is within limits. This is said, and nothing is done.
+    pub fn shapes_limited(&self)
+        ensures { All (λ t. within t ≡ true) (bare_trees self.now.shapes) }
+    {
+        let _ = &self.alloc;
     }
 
     /// Each node is linked to earlier nodes and names terms that stand. This is said, and nothing is done.

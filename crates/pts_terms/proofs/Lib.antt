@@ -4,5 +4,6 @@ pub mod Free
 pub mod Indices
 pub mod Lifting
 pub mod Putting
+pub mod Replaced
 pub mod Same
 pub mod Unnamed

@@ -2,7 +2,7 @@
 use Rattle.std.proofs.Common.{ℕ, suc, ◌+◌, ◌≡◌, ◌≤◌, refl, ap, arith, ◌∙◌}
 use mathlib.Core.Path.{ap₂}
 use Rattle.pts_terms.specs.Tree.{Tree, sort, const, var, app, named_lam, named_pi, named_let, lift_index, lift, put_index, put, subst}
-use Rattle.pts_terms.proofs.Lifting.{ap₃, lift_join, lift_swap}
+use Rattle.pts_terms.proofs.Lifting.{ap₃, lift_join, lift_swap, lift_zero}
 
 put_index_lifted : {B : Type 0} (k n m : ℕ) (a : Tree B) (i : ℕ) → put_index k n (lift 0 m a) i ≡ put_index k (m + n) a i
 put_index_lifted k n m a i = grind (arith, lift_join 0 m 0 n a)
@@ -72,3 +72,7 @@ put_put k q l m j p a b (app c d) e f g h = ap₂ app (put_put k q l m j p a b c
 put_put k q l m j p a b (named_lam x A c) e f g h = ap₂ (named_lam x) (put_put k q l m j p a b A e f g h) (put_put k q (suc l) (suc m) (suc j) (suc p) a b c (omega arith) (omega arith) (omega arith) (omega arith))
 put_put k q l m j p a b (named_pi x A c) e f g h = ap₂ (named_pi x) (put_put k q l m j p a b A e f g h) (put_put k q (suc l) (suc m) (suc j) (suc p) a b c (omega arith) (omega arith) (omega arith) (omega arith))
 put_put k q l m j p a b (named_let x d A c) e f g h = ap₃ (named_let x) (put_put k q l m j p a b d e f g h) (put_put k q l m j p a b A e f g h) (put_put k q (suc l) (suc m) (suc j) (suc p) a b c (omega arith) (omega arith) (omega arith) (omega arith))
+
+-- A term that was lifted once has nothing at index 0.
+pub put_back : {B : Type 0} (a t : Tree B) → subst 0 a (lift 0 1 t) ≡ t
+put_back a t = put_lift 0 0 0 0 a t (omega arith) (omega arith) ∙ lift_zero 0 t

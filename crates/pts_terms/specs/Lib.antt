@@ -1,4 +1,5 @@
 pub mod Tree
+pub mod Replaced
 pub mod Limits
 pub mod Seen
 pub mod Code
