@@ -1,9 +1,11 @@
 -- What nodes judge stays so while a record grows, and what they say without printed names.
-use Rattle.std.proofs.Common.{◌≡◌, ℕ, ◌<◌, List, [], ◌∷◌, length, map, refl, ap, ◌∙◌, true, Some}
+use Rattle.std.proofs.Common.{◌≡◌, ℕ, ◌<◌, List, [], ◌∷◌, length, map, refl, sym, ap, ◌∙◌, true, Some}
 use Rattle.pts_terms.specs.Tree.{Bare, bare, let_in}
 use Rattle.pts_ctx.specs.Front.{Local, assumed, defined, unknown}
 use Rattle.pts_record.specs.Table.{Tables, named_at, bare_at}
-use Rattle.pts_record.specs.Said.{by_assume, by_define, Said, nothing, context, judgement, comparison, scope_of, told, named_told, bare_local, bare_said, is_context, all_known}
+use Rattle.pts_record.specs.declared.shape.Form.{Form}
+use Rattle.pts_record.specs.declared.shape.Form.TheVariants.{Empty, Assume, Define, Bare as BareForm, Same, Left, Right, CongApp, CongLam, CongPi}
+use Rattle.pts_record.specs.Said.{by_assume, by_define, Said, Row, nothing, context, judgement, comparison, scope_of, told, named_told, bare_local, bare_said, say_as, is_context, is_judgement, has_terms, all_known}
 use Rattle.pts_record.proofs.Named.{told_bare, scope_bare}
 use Rattle.pts_record.proofs.Trees.{bare_of_named}
 use Rattle.pts_rules.specs.Parts.{is_typed_context, newest_assumption, let_with}
@@ -102,3 +104,17 @@ module _ (r : Tables) (c : ℕ) (j : Judged) (i : ℕ) where
       ap (λ m. let_with (map bare_local (scope_of m).entries) t) n.1
       ∙ ap (λ d. Some (let_in d (bare (named_at r.shapes j.claim)) t)) (bare_of_named r.shapes j.subject)
       ∙ ap (λ A. Some (let_in (bare_at r.shapes j.subject) A t)) (bare_of_named r.shapes j.claim)
+
+-- What a judgement says, by the line that it is.
+pub judgement_told : {B : Type 0} (m : Said B) (f : Form) (k : ℕ) (l : Row B) (c p : Said B) → m ≡ say_as f k l c p → is_judgement m ≡ true → (m ≡ judgement l.ctx (scope_of c) l.subject l.claim) × (has_terms f ≡ true)
+judgement_told m Empty k l c p e h = absurd (cc (sym (ap is_judgement e) ∙ h))
+judgement_told m Assume k l c p e h = absurd (cc (sym (ap is_judgement e) ∙ h))
+judgement_told m Define k l c p e h = absurd (cc (sym (ap is_judgement e) ∙ h))
+judgement_told m BareForm k l c p e h = absurd (cc (sym (ap is_judgement e) ∙ h))
+judgement_told m Same k l c p e h = absurd (cc (sym (ap is_judgement e) ∙ h))
+judgement_told m Left k l c p e h = absurd (cc (sym (ap is_judgement e) ∙ h))
+judgement_told m Right k l c p e h = absurd (cc (sym (ap is_judgement e) ∙ h))
+judgement_told m CongApp k l c p e h = absurd (cc (sym (ap is_judgement e) ∙ h))
+judgement_told m CongLam k l c p e h = absurd (cc (sym (ap is_judgement e) ∙ h))
+judgement_told m CongPi k l c p e h = absurd (cc (sym (ap is_judgement e) ∙ h))
+judgement_told m _ k l c p e h = (e, refl)

@@ -10,3 +10,4 @@ pub mod Atoms
 pub mod Binders
 pub mod Defined
 pub mod Converted
+pub mod Last

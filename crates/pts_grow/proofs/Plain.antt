@@ -3,7 +3,7 @@ use Rattle.std.proofs.Common.{◌≡◌, ℕ, ◌<◌, List, length, sym, ap, �
 use Rattle.std.specs.Option.{option_map}
 use mathlib.Core.Path.{ap₂}
 use Rattle.pts_names.specs.Name.{Name}
-use Rattle.pts_terms.specs.Tree.{Named, bare, sort, const, app, lift, put}
+use Rattle.pts_terms.specs.Tree.{Named, bare, sort, const, app, named_lam, lam, lift, put}
 use Rattle.pts_terms.proofs.Unnamed.{bare_lift, bare_put}
 use Rattle.pts_ctx.specs.Front.{Global, find}
 use Rattle.pts_record.specs.declared.shape.Shape.{Shape}
@@ -26,6 +26,9 @@ module _ (a b : Tables) (n : ℕ) (g : Keeps a b) where
 
   pub plain_app : (f x : ℕ) → f < length a.shapes → x < length a.shapes → named_at b.shapes n ≡ app (named_at a.shapes f) (named_at a.shapes x) → bare_at b.shapes n ≡ app (bare_at b.shapes f) (bare_at b.shapes x)
   plain_app f x h k e = plain b.shapes n (app (named_at a.shapes f) (named_at a.shapes x)) e ∙ ap₂ app (stood f h) (stood x k)
+
+  pub plain_lam : (x : Name) (d u : ℕ) → d < length a.shapes → u < length a.shapes → named_at b.shapes n ≡ named_lam x (named_at a.shapes d) (named_at a.shapes u) → bare_at b.shapes n ≡ lam (bare_at b.shapes d) (bare_at b.shapes u)
+  plain_lam x d u h k e = plain b.shapes n (named_lam x (named_at a.shapes d) (named_at a.shapes u)) e ∙ ap₂ lam (stood d h) (stood u k)
 
   pub plain_lift : (from by t : ℕ) → t < length a.shapes → named_at b.shapes n ≡ lift from by (named_at a.shapes t) → bare_at b.shapes n ≡ lift from by (bare_at b.shapes t)
   plain_lift from by t h e = plain b.shapes n (lift from by (named_at a.shapes t)) e ∙ bare_lift from by (named_at a.shapes t) ∙ ap (lift from by) (stood t h)

@@ -1,8 +1,10 @@
 -- What nodes of a record judge, and the contexts that are made of them.
 use Rattle.std.specs.Prelude.{◌≡◌, ◌<◌, ℕ, List, [], ◌∷◌, length, true, Option, Some, None, is_some}
+use Rattle.std.specs.List.{slice_get}
 use Rattle.std.specs.Option.{option_map}
-use Rattle.pts_terms.specs.Tree.{Tree, Bare, const, bare}
+use Rattle.pts_terms.specs.Tree.{Tree, Bare, const, pi, bare}
 use Rattle.pts_ctx.specs.Front.{Global, find, Local, assumed, defined, unknown}
+use Rattle.pts_record.specs.declared.shape.Form.TheVariants.{PiAt}
 use Rattle.pts_record.specs.Table.{Tables, named_at, bare_at}
 use Rattle.pts_record.specs.Said.{named_told, context, judgement, scope_of, longer, by_empty, by_assume, by_define, is_context, all_known}
 use Rattle.pts_rules.specs.Parts.{sort_in}
@@ -32,6 +34,25 @@ IsDefineOf r c j n = IsNode r n (context (longer n (by_define j.node c) (defined
 -- The term is a sort.
 abbrev pub IsSort : Tables → ℕ → Type 0
 IsSort r t = is_some (sort_in (bare_at r.shapes t)) ≡ true
+
+-- The node judges that a term has a sort, in the context with the number c.
+abbrev pub JudgesSort : Tables → ℕ → Judged → Type 0
+JudgesSort r c j = Judges r c j × IsSort r j.claim
+
+-- The first judgement is of the product of the subjects of the two others; the last of them is in the context with the
+-- number i, in which the subject of d is assumed.
+pub record IsProduct (r : Tables) (c : ℕ) (p d : Judged) (i : ℕ) (s : Judged) : Type 0 where
+  pub product : JudgesSort r c p
+  pub domain : JudgesSort r c d
+  pub inner : IsAssumeOf r c d i
+  pub body : JudgesSort r i s
+  pub parts : bare_at r.shapes p.subject ≡ pi (bare_at r.shapes d.subject) (bare_at r.shapes s.subject)
+
+-- The node with the number n has the form of products, with the nodes d and s as its premises.
+pub record IsProductNode (r : Tables) (n d s : ℕ) : Type 0 where
+  pub form : option_map (λ l. l.form) (slice_get r.nodes n) ≡ Some PiAt
+  pub first : option_map (λ l. l.first) (slice_get r.nodes n) ≡ Some d
+  pub second : option_map (λ l. l.second) (slice_get r.nodes n) ≡ Some s
 
 -- The type of an entry; a bare one has none.
 abbrev pub type_in : {B : Type 0} → Local B → Option (Tree B)

@@ -4,6 +4,7 @@
 #![tactic(auto)]
 
 mod build;
+mod closing;
 mod compared;
 mod comparisons;
 mod contexts;
@@ -15,8 +16,10 @@ mod leaves;
 mod locals;
 mod nodes;
 mod products;
+mod read;
 
 pub use build::{add_line, apply, lift, put, take_in};
+pub use closing::close;
 pub use compared::Compared;
 pub use comparisons::{add_bare, add_capp, add_clam, add_cpi, add_left, add_right, add_same};
 pub use contexts::{add_assume, add_define, add_empty};
@@ -28,3 +31,4 @@ pub use leaves::{add_const, add_sort, add_var};
 pub use locals::entry_type;
 pub use nodes::push;
 pub use products::{add_app, add_lam, add_pi};
+pub use read::judged_at;

@@ -1,6 +1,7 @@
 // Nodes that are added to a record.
 
-ghost use Rattle.std.specs.Prelude.{◌≡◌, length, IfOk, None};
+ghost use Rattle.std.specs.Prelude.{◌≡◌, length, IfOk, None, Some};
+ghost use Rattle.std.specs.List.{slice_get};
 ghost use Rattle.pts_ctx.specs.System.{Specification};
 ghost use Rattle.pts_ctx.specs.Front.{Front};
 ghost use Rattle.pts_record.specs.Table.{named_trees, bare_trees, AllBelow, node_links, term_links, kept_node};
@@ -24,6 +25,7 @@ pub fn push(proof: &mut Record, node: Node) -> Result<usize, AllocError>
     requires terms { AllBelow (length proof.old.shapes) (term_links node) }
     requires kept { kept_node node ≡ node }
     ensures says { IfOk result (λ n. IsNode proof.new n (say_as node.form n (row_of_node (named_trees proof.old.shapes) node) (named_told proof.old node.ctx) (named_told proof.old node.first))) }
+    ensures line { IfOk result (λ n. slice_get proof.new.nodes n ≡ Some node) }
     ensures shapes { proof.new.shapes ≡ proof.old.shapes }
     ensures keeps { Keeps proof.old proof.new }
     ensures valid { (S : Specification) (G : Front) → form_fault S G node.form (row_of_node (bare_trees proof.old.shapes) node) (told proof.old node.ctx) (told proof.old node.first) (told proof.old node.second) (told proof.old node.third) ≡ None → IsValid S G proof.old → IsValid S G proof.new }

@@ -7,7 +7,7 @@ ghost use Rattle.pts_ctx.specs.Front.{Front};
 ghost use Rattle.pts_record.specs.Table.{bare_at};
 ghost use Rattle.pts_rules.specs.Valid.{IsValid};
 ghost use Rattle.pts_grow.specs.Keeps.{Keeps, StaysValid};
-ghost use Rattle.pts_grow.specs.Judges.{IsTypedContext, Judges, IsAssumeOf, IsSort};
+ghost use Rattle.pts_grow.specs.Judges.{IsTypedContext, Judges, IsAssumeOf, IsProductNode, IsSort};
 
 use crate::{Judged, RuleSorts, push};
 use pts_ctx::System;
@@ -41,6 +41,7 @@ pub fn add_pi(
     requires ty { bare_at proof.old.shapes claim ≡ sort rule.product.0 }
     ensures pair { IfOk result (λ j. (j.subject ≡ subject) × (j.claim ≡ claim)) }
     ensures judges { IfOk result (λ j. Judges proof.new ctx j) }
+    ensures node { IfOk result (λ j. IsProductNode proof.new j.node domain.node body.node) }
     ensures shapes { proof.new.shapes ≡ proof.old.shapes }
     ensures keeps { Keeps proof.old proof.new }
     ensures valid { (G : Front) → IsValid system.now G proof.old → IsValid system.now G proof.new }

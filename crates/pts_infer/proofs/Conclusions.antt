@@ -37,17 +37,6 @@ use Rattle.pts_infer.specs.Given.{StopsWith, IsOpened, EitherLarge, first_large,
 use Rattle.pts_infer.specs.Answered.{Unfit, ShownJudged, OfTerm, term_too_large, term_inferred, OfType, type_too_large, type_sorted, OfFitted, body_too_large, wanted_too_large, body_stops, body_fitted}
 use Rattle.pts_infer.proofs.Runs.{entries_stay}
 
--- A node that was added is the last.
-pub last_node : (r q : Tables) (n : Node) (k : ℕ) → q ≡ with_node r n → k ≡ length r.nodes → suc k ≡ length q.nodes
-last_node r q n k e p = let l = length-append r.nodes (n ∷ []) in let m : length q.nodes ≡ length (r.nodes ++ n ∷ []) = ap (λ t. length t.nodes) e in let s : length (r.nodes ++ n ∷ []) ≡ length r.nodes + 1 = l in omega (arith, p, m, s)
-
-pub same_shapes : (r q : Tables) (n : Node) → q ≡ with_node r n → q.shapes ≡ r.shapes
-same_shapes r q n e = ap (λ t. t.shapes) e
-
--- The node that says a judgement again.
-abbrev pub thin_of : ℕ → Judged → Node
-thin_of c j = record { form = Thin; ctx = c; subject = j.subject; claim = j.claim; first = j.node; second = 0; third = 0 }
-
 -- The empty record is valid.
 pub nothing_faulty : (S : Specification) (G : Front) (r : Tables) → r ≡ record { shapes = []; nodes = [] } → IsValid S G r
 unfolding first_fault

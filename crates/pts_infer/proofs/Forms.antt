@@ -1,5 +1,7 @@
 -- What the answers of reduction and of the conversion test say of the work on a budget.
-use Rattle.std.proofs.Common.{◌≡◌, ℕ, ◌<◌, refl, sym, ap, ◌∙◌, subst, List, length, arith}
+use Rattle.std.proofs.Common.{◌≡◌, ℕ, ◌<◌, refl, sym, ap, ◌∙◌, subst, List, length, arith, Result, Ok, Err, IfErr}
+use Rattle.std.specs.Result.{IsErr, IsErrAnd}
+use Rattle.pts_record.specs.declared.shape.Shape.{Shape}
 use Rattle.pts_terms.specs.Tree.{Named}
 use Rattle.pts_record.specs.Table.{Tables, named_at}
 use Rattle.pts_reduce_cost.specs.Costs.{Globals, Entries, Reduct, form, too_large, Reduces, TestAnswer, yes_, no_, beyond, Tests, nesting}
@@ -14,13 +16,14 @@ use Rattle.pts_infer_cost.proofs.Tests.{types_agree, types_differ, types_deep, t
 use Rattle.pts_grow.specs.Keeps.{Keeps}
 use Rattle.pts_grow.proofs.Grow.{tree_stays}
 use Rattle.pts_reduce.specs.declared.fault.ReduceFault.{ReduceFault}
-use Rattle.pts_reduce.specs.declared.fault.ReduceFault.TheVariants.{Spent as AllSpent, Deep as TooDeep}
+use Rattle.pts_reduce.specs.declared.fault.ReduceFault.TheVariants.{Spent as AllSpent, Deep as TooDeep, Memory as NoMemory}
 use Rattle.pts_reduce.specs.declared.answer.Conversion.{Conversion}
 use Rattle.pts_reduce.specs.declared.answer.Conversion.TheVariants.{Yes, No}
 use Rattle.pts_reduce.specs.Answered.{Refused, Answered}
 use Rattle.pts_infer.specs.declared.fault.What.TheVariants.{NotConvertible}
 use Rattle.pts_infer.specs.declared.fault.Misfit.{Misfit}
-use Rattle.pts_infer.specs.Given.{MisfitsWith, kind_of}
+use Rattle.pts_infer.specs.declared.fault.Fault.{Fault}
+use Rattle.pts_infer.specs.Given.{MisfitsWith, PlainlyStops, kind_of, of_reduction}
 
 -- No outcome within the budget.
 none_reduced : (costs : Reduct → ℕ → Type 0) (b : ℕ) (r : Run ⊥ Named) → IsReduction costs b r → AboveBudget costs b → r ≡ spent
@@ -44,14 +47,17 @@ form_large G L t b k (n, c, e) = reduction_reached c k b (sym e)
 pub form_unpaid : (G : Globals) (L : Entries) (t : Named) (b : ℕ) → AboveBudget (Reduces G L t) b → reduced G L b t ≡ spent
 form_unpaid G L t b h = none_reduced (Reduces G L t) b (reduced G L b t) (reduction_exact G L t b) h
 
--- The same of a refusal that is told by an equal fault.
-pub form_deep_at : (G : Globals) (L : Entries) (t : Named) (e : ReduceFault) (b k : ℕ) → e ≡ TooDeep → Refused (Reduces G L t) too_large e b k → reduced G L b t ≡ deep k
-form_deep_at G L t e b k p h = form_large G L t b k (subst (λ e. Refused (Reduces G L t) too_large e b k) p h)
+-- A fault of a reduction that is handed on.
+plainly_stops : (G : Globals) (L : Entries) (t : Named) (e : ReduceFault) (b k : ℕ) → Refused (Reduces G L t) too_large e b k → PlainlyStops (of_reduction e) k (reduced G L b t)
+plainly_stops G L t AllSpent b k h = (form_unpaid G L t b h.0, h.1)
+plainly_stops G L t TooDeep b k h = form_large G L t b k h
+plainly_stops G L t NoMemory b k h = tt
 
-pub form_spent_at : (G : Globals) (L : Entries) (t : Named) (e : ReduceFault) (b k : ℕ) → e ≡ AllSpent → Refused (Reduces G L t) too_large e b k → (reduced G L b t ≡ spent) × (k ≡ 0)
-form_spent_at G L t e b k p h = let r : Refused (Reduces G L t) too_large AllSpent b k = subst (λ e. Refused (Reduces G L t) too_large e b k) p h in (form_unpaid G L t b r.0, r.1)
+pub form_stopped : {X : Type 0} (G : Globals) (L : Entries) (t : Named) (r : Result X Fault) (e : ReduceFault) (b k : ℕ) → IsErr r → IsErrAnd r (λ x. x ≡ of_reduction e) → Refused (Reduces G L t) too_large e b k → IfErr r (λ x. PlainlyStops x k (reduced G L b t))
+form_stopped G L t (Ok x) e b k i p h = tt
+form_stopped G L t (Err x) e b k i p h = subst (λ x. PlainlyStops x k (reduced G L b t)) (sym p) (plainly_stops G L t e b k h)
 
-pub ruleset form_facts = (form_is, form_deep_at, form_spent_at)
+pub ruleset form_facts = (form_is, form_stopped)
 
 -- The types of a fit.
 pub types_yes : (G : Globals) (L : Entries) (T W : Named) (s b k : ℕ) → WithinBudget (Tests G nesting L T W) b yes_ k → types_compared G L T W s b ≡ ends tt k

@@ -3,11 +3,9 @@ pub mod Paid
 pub mod Runs
 pub mod Forms
 pub mod Atoms
-pub mod Sorting
-pub mod Fitting
-pub mod Domains
-pub mod Applying
-pub mod Binding
-pub mod Defining
+pub mod Working
+pub mod Running
+pub mod ByRule
+pub mod Testing
 pub mod Refusals
 pub mod Conclusions

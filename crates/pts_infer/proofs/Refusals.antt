@@ -11,10 +11,10 @@ use Rattle.pts_record.specs.Said.{Said, Row, named_told, judgement, scope_of, sa
 use Rattle.pts_reduce_cost.specs.Costs.{Globals, Entries}
 use Rattle.pts_reduce_cost.specs.Run.{Run, ends}
 use Rattle.pts_reduce_cost.specs.Laws.{WithinBudget}
-use Rattle.pts_infer_cost.specs.Typing.{Flaw, FitFlaw, SortTest, Fits, Infers, Outcome, comes, inference_nesting}
+use Rattle.pts_infer_cost.specs.Typing.{Flaw, FitFlaw, SortTest, Sorts, Fits, Infers, Outcome, comes, inference_nesting}
 use Rattle.pts_infer_cost.specs.Laws.{IsWork}
-use Rattle.pts_infer_cost.specs.Inference.{inferred, sort_tested, fitted}
-use Rattle.pts_infer_cost.proofs.Exact.{inference_within, inference_exact, sort_test_within, sort_test_exact, fit_within, fit_exact}
+use Rattle.pts_infer_cost.specs.Inference.{inferred, sort_tested, sorted, fitted}
+use Rattle.pts_infer_cost.proofs.Exact.{inference_within, inference_exact, sort_test_within, sort_test_exact, sorts_exact, fit_within, fit_exact}
 use Rattle.pts_grow.specs.Keeps.{Keeps, IsNode}
 use Rattle.pts_grow.proofs.Grow.{tree_stays, told_stays}
 use Rattle.pts_grow.specs.declared.judged.Judged.{Judged}
@@ -66,6 +66,17 @@ inference_judged S G L a n c t b k j g l m p h r =
     let w = inference_within S G 4000 L (named_at a.shapes t) (named_at n.shapes j.claim) b k r in
     (named_at n.shapes j.claim, w, (h.2.0, h.2.1 ∙ ap (λ m. judgement c (scope_of m) (named_at n.shapes j.subject) (named_at n.shapes j.claim)) x ∙ ap (λ u. judgement c (scope_of (named_told a c)) u (named_at n.shapes j.claim)) (ap (named_at n.shapes) p ∙ y)))
 
+-- The same with the sort test.
+pub sorted_judged : (S : Specification) (G : Globals) (L : Entries) (a n : Tables) (c t b k s : ℕ) (j : Judged) → Keeps a n → c < length a.nodes → t < length a.shapes → j.subject ≡ t → Judges n c j → named_at n.shapes j.claim ≡ sort s → sorted S G (inferred S G 4000) L (named_at a.shapes t) b ≡ ends s k → (x : ℕ) × WithinBudget (Sorts S G inference_nesting L (named_at a.shapes t)) b (comes x) k × IsNode n j.node (judgement c (scope_of (named_told a c)) (named_at a.shapes t) (sort x))
+sorted_judged S G L a n c t b k s j g l m p h i r =
+    let x = told_stays a n c g l in
+    let y = tree_stays a n t g m in
+    let w : WithinBudget (Sorts S G 4000 L (named_at a.shapes t)) b (comes s) k = subst (IsWork (Sorts S G 4000 L (named_at a.shapes t)) b) r (sorts_exact S G 4000 L (named_at a.shapes t) b) in
+    (s, w, (h.2.0, h.2.1 ∙ ap (λ m. judgement c (scope_of m) (named_at n.shapes j.subject) (named_at n.shapes j.claim)) x ∙ ap (λ u. judgement c (scope_of (named_told a c)) u (named_at n.shapes j.claim)) (ap (named_at n.shapes) p ∙ y) ∙ ap (judgement c (scope_of (named_told a c)) (named_at a.shapes t)) i))
+
+pub sorted_refused : (S : Specification) (G : Globals) (L : Entries) (t : Named) (ss : List Shape) (xs : List Name) (e : Fault) (h : InferFault) (b k : ℕ) → ShownAs ss xs e h → StopsWith ss e k (sorted S G (inferred S G 4000) L t b) → Refused xs (Sorts S G inference_nesting L t) h b k
+sorted_refused S G L t ss xs e h b k s r = refused_as (Sorts S G 4000 L t) b (sorted S G (inferred S G 4000) L t b) ss xs e h k (sorts_exact S G 4000 L t b) s r
+
 pub ruleset inferences = (fault_stands, inference_refused, inference_judged)
 
 -- The same of fits.
@@ -99,21 +110,7 @@ unfit_as costs b r ss xs (misfit.Own f) fit.Spent k w t s = absurd t
 unfit_as costs b r ss xs (misfit.Own f) fit.Deep k w t s = absurd t
 unfit_as costs b r ss xs (misfit.Own f) (fit.Wanted h) k w t s = absurd t
 
--- What a judgement says, by the line that it is.
-pub judgement_told : {B : Type 0} (m : Said B) (f : Form) (k : ℕ) (l : Row B) (c p : Said B) → m ≡ say_as f k l c p → is_judgement m ≡ true → (m ≡ judgement l.ctx (scope_of c) l.subject l.claim) × (has_terms f ≡ true)
-judgement_told m Empty k l c p e h = absurd (cc (sym (ap is_judgement e) ∙ h))
-judgement_told m Assume k l c p e h = absurd (cc (sym (ap is_judgement e) ∙ h))
-judgement_told m Define k l c p e h = absurd (cc (sym (ap is_judgement e) ∙ h))
-judgement_told m BareForm k l c p e h = absurd (cc (sym (ap is_judgement e) ∙ h))
-judgement_told m Same k l c p e h = absurd (cc (sym (ap is_judgement e) ∙ h))
-judgement_told m Left k l c p e h = absurd (cc (sym (ap is_judgement e) ∙ h))
-judgement_told m Right k l c p e h = absurd (cc (sym (ap is_judgement e) ∙ h))
-judgement_told m CongApp k l c p e h = absurd (cc (sym (ap is_judgement e) ∙ h))
-judgement_told m CongLam k l c p e h = absurd (cc (sym (ap is_judgement e) ∙ h))
-judgement_told m CongPi k l c p e h = absurd (cc (sym (ap is_judgement e) ∙ h))
-judgement_told m _ k l c p e h = (e, refl)
-
--- The same of the node with the number of a judgement.
+-- What a judgement says, by the node with the number of a judgement.
 pub of_judgement : (a : Tables) (c node : ℕ) (j : Judged) → Judges a c j → j.node ≡ node → named_told a node ≡ judgement c (scope_of (named_told a c)) (named_at a.shapes j.subject) (named_at a.shapes j.claim)
 of_judgement a c node j h e = ap (named_told a) (sym e) ∙ h.2.1
 

@@ -17,12 +17,6 @@ use Rattle.pts_infer.specs.declared.fault.Misfit.{Misfit}
 use Rattle.pts_infer.specs.declared.judgements.Function.{Function}
 use Rattle.pts_infer.specs.Given.{Gives, GivesFit, IsFunction}
 
-pub gives_as : {X A : Type 0} (ss : List Shape) (value : X → A) (r : Result X Fault) (k : ℕ) (p q : Run Flaw A) → p ≡ q → Gives ss value r k q → Gives ss value r k p
-gives_as ss value r k p q e h = subst (Gives ss value r k) (sym e) h
-
-pub fits_as : {X : Type 0} (ss : List Shape) (r : Result X Misfit) (k : ℕ) (p q : Run FitFlaw (Unit {0})) → p ≡ q → GivesFit ss r k q → GivesFit ss r k p
-fits_as ss r k p q e h = subst (GivesFit ss r k) (sym e) h
-
 pub entries_stay : (a b : Tables) (c : ℕ) → Keeps a b → c < length a.nodes → entries_of b c ≡ entries_of a c
 entries_stay a b c g h = ap (λ m. (scope_of m).entries) (told_stays a b c g h)
 

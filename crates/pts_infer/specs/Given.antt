@@ -13,6 +13,8 @@ use Rattle.pts_ctx.specs.System.{Specification}
 use Rattle.pts_ctx.specs.Front.{Front}
 use Rattle.pts_rules.specs.Valid.{IsValid}
 use Rattle.pts_reduce.specs.Chain.{entries_of}
+use Rattle.pts_reduce.specs.declared.fault.ReduceFault.{ReduceFault}
+use Rattle.pts_reduce.specs.declared.fault.ReduceFault.TheVariants as reduce
 use Rattle.pts_grow.specs.Judges.{Judges, IsTypedContext}
 use Rattle.pts_infer.specs.declared.fault.What.{What}
 use Rattle.pts_infer.specs.declared.fault.What.TheVariants.{NotASort, NotProduct, NoRule, NoAxiom, NotConvertible}
@@ -26,6 +28,12 @@ use Rattle.pts_infer.specs.declared.judgements.Function.{Function}
 abbrev pub same_fault : TermFault → Fault
 same_fault made.TooLarge = Deep
 same_fault made.Memory = Memory
+
+-- The fault of a reduction.
+abbrev pub of_reduction : ReduceFault → Fault
+of_reduction reduce.Spent = Spent
+of_reduction reduce.Deep = Deep
+of_reduction reduce.Memory = Memory
 
 -- The terms that are shown stand in a table of n terms.
 abbrev pub ShownBelow : ℕ → What → Type 0
@@ -89,9 +97,9 @@ abbrev pub Gives : {X A : Type 0} → List Shape → (X → A) → Result X Faul
 Gives ss value (Ok x) k r = r ≡ ends (value x) k
 Gives ss value (Err e) k r = StopsWith ss e k r
 
-abbrev pub GivesFit : {X : Type 0} → List Shape → Result X Misfit → ℕ → Run FitFlaw (Unit {0}) → Type 0
-GivesFit ss (Ok x) k r = r ≡ ends tt k
-GivesFit ss (Err e) k r = MisfitsWith ss e k r
+abbrev pub GivesFit : {X A : Type 0} → List Shape → (X → A) → Result X Misfit → ℕ → Run FitFlaw A → Type 0
+GivesFit ss value (Ok x) k r = r ≡ ends (value x) k
+GivesFit ss value (Err e) k r = MisfitsWith ss e k r
 
 -- The type of a judgement; the domain and the body of a function's product.
 abbrev pub type_of : List Shape → Judged → Named

@@ -1,3 +1,4 @@
 pub mod Given
 pub mod Answered
 pub mod FaultText
+pub mod Works

@@ -4,6 +4,7 @@ ghost use Rattle.std.specs.Prelude.{◌≡◌};
 ghost use Rattle.pts_infer.specs.declared.answer.InferFault.TheVariants.{Memory as NoMemory};
 ghost use Rattle.pts_infer.specs.declared.answer.FitFault.TheVariants.{Memory as NoRoom};
 
+use pts_grow::Judged;
 use pts_names::{List, Name};
 use pts_record::Record;
 use pts_terms::{Sort, Term};
@@ -79,6 +80,17 @@ impl From<AllocError> for FitFault {
     fn from(_: AllocError) -> Self {
         FitFault::Memory
     }
+}
+
+/// A product with its sort: the judgement of it, whose node has the form of products, and the two judgements that this
+/// node is made of, that of the domain and that of the body. The body is judged in a context of its own, in which the
+/// domain is assumed.
+#[derive(Clone, Copy, Debug, PartialEq, Eq)]
+pub struct ProductParts {
+    pub product: Judged,
+    pub domain: Judged,
+    pub inner: usize,
+    pub body: Judged,
 }
 
 /// A type, and the record whose last node is the judgement that a term has it, in the empty context.

@@ -1,30 +1,30 @@
 // The public calls: inference, the sort test and the fit of judgements.
 
-ghost use Rattle.std.specs.Prelude.{◌≡◌, ◌<◌, ℕ, length, IfOk, IfErr, true};
-ghost use Rattle.pts_terms.specs.Tree.{Named, sort as sort_term};
+ghost use Rattle.std.specs.Prelude.{◌≡◌, ◌<◌, ℕ, length, IfOk, IfErr, is_some, true, Some};
+ghost use Rattle.pts_terms.specs.Tree.{Named, named_pi, sort as sort_term};
 ghost use Rattle.pts_ctx.specs.Front.{bare_front};
 ghost use Rattle.pts_record.specs.Table.{named_at};
 ghost use Rattle.pts_record.specs.Said.{named_told, judgement, scope_of, is_judgement, place_of, subject_of, claim_of};
 ghost use Rattle.pts_rules.specs.Meter.{left};
 ghost use Rattle.pts_rules.specs.Valid.{IsValid};
 ghost use Rattle.pts_reduce_cost.specs.Laws.{WithinBudget};
-ghost use Rattle.pts_infer_cost.specs.Typing.{Infers, SortTest, Fits, comes, inference_nesting};
+ghost use Rattle.pts_infer_cost.specs.Typing.{Infers, Sorts, SortTest, Fits, as_product, comes, inference_nesting};
 ghost use Rattle.pts_grow.specs.Keeps.{Keeps, IsNode};
-ghost use Rattle.pts_grow.specs.Judges.{IsTypedContext, Judges};
+ghost use Rattle.pts_grow.specs.Judges.{IsProduct, IsProductNode, IsTypedContext};
 ghost use Rattle.pts_reduce.specs.Given.{Later};
 ghost use Rattle.pts_reduce.specs.Chain.{entries_of};
 ghost use Rattle.pts_infer.specs.Answered.{Refused, Unfit};
 
-use crate::answer::{FitFault, InferFault};
-use crate::fits::fit_in;
-use crate::inferring::infer_in;
+use crate::answer::{FitFault, InferFault, ProductParts};
+use crate::lent::{fit_in, infer_in, product_in, sort_test_in, sorted_in};
 use crate::show::{show_fault, show_misfit};
-use crate::sort_tests::sort_test_in;
+use crate::work::Binder;
 use pts_ctx::{Context, System};
-use pts_grow::Judged;
+use pts_grow::judged_at;
 use pts_names::Name;
-use pts_record::Record;
+use pts_record::{Record, Shape};
 use pts_rules::Meter;
+use std::alloc::AllocError;
 
 // How deep inferences may be nested.
 pub(crate) const NESTING: u32 = 4000;
@@ -62,22 +62,97 @@ pub fn infer(
     }
 }
 
-// The context of a judgement, and its terms.
-#[tactic(auto, using(crate::proofs::Refusals::judgement_told))]
-fn judged_at(proof: &Record, node: usize) -> (usize, Judged)
-    requires node { node < length proof.now.nodes }
-    requires judgement { is_judgement (named_told proof.now node) ≡ true }
-    ensures ctx { (result.0 < length proof.now.nodes) × (result.0 ≡ place_of (named_told proof.now node)) }
-    ensures judged { Judges proof.now result.0 result.1 }
-    ensures node { result.1.node ≡ node }
+/// The judgement of a term that has a sort as its type, in a context: inference with the sort test, at its cost. The
+/// names stand for the entries of the context, the outermost first; flaws show them.
+///
+/// # Errors
+///
+/// `Flaw` and `Deep` are the outcome of inference with the sort test. `Spent` comes exactly where the cost is above what
+/// the meter has left; the meter then is at its limit. `Memory`. After each of them the record has what it had, and is
+/// valid if it was.
+#[tactic(auto, using(pts_grow::proofs::Grow::keeping, pts_reduce::proofs::Paid::later, crate::proofs::Refusals::inferences))]
+pub fn infer_sorted(
+    system: &System,
+    front: &Context,
+    proof: &mut Record,
+    ctx: usize,
+    names: &[Name],
+    term: usize,
+    meter: &mut Meter,
+) -> Result<usize, InferFault>
+    requires ctx { ctx < length proof.old.nodes }
+    requires typed { IsTypedContext proof.old ctx }
+    requires term { term < length proof.old.shapes }
+    ensures judged { IfOk result (λ n. (s : ℕ) × WithinBudget (Sorts system.now front.now.entries inference_nesting (entries_of proof.old ctx) (named_at proof.old.shapes term)) (left meter.old) (comes s) (left meter.new) × IsNode proof.new n (judgement ctx (scope_of (named_told proof.old ctx)) (named_at proof.old.shapes term) (sort_term s))) }
+    ensures refused { IfErr result (λ e. Refused names.now (Sorts system.now front.now.entries inference_nesting (entries_of proof.old ctx) (named_at proof.old.shapes term)) e (left meter.old) (left meter.new)) }
+    ensures keeps { Keeps proof.old proof.new }
+    ensures valid { IsValid system.now (bare_front front.now.entries) proof.old → IsValid system.now (bare_front front.now.entries) proof.new }
+    ensures later { Later meter.old meter.new }
 {
-    let line = proof.node(node);
-    let judged = Judged {
-        subject: line.subject,
-        claim: line.claim,
-        node,
-    };
-    (line.ctx, judged)
+    match sorted_in(system, front, proof, ctx, term, NESTING, meter) {
+        Ok(sorted) => Ok(sorted.judged.node),
+        Err(fault) => Err(show_fault(proof, names, fault)),
+    }
+}
+
+// The parts of a product.
+fn product_at(proof: &Record, term: usize) -> Result<Binder, AllocError>
+    requires term { term < length proof.now.shapes }
+    requires product { is_some (as_product (named_at proof.now.shapes term)) ≡ true }
+    ensures term { IfOk result (λ b. b.term ≡ term) }
+    ensures parts { IfOk result (λ b. (b.domain < length proof.now.shapes) × (b.body < length proof.now.shapes)) }
+    ensures is { IfOk result (λ b. named_at proof.now.shapes term ≡ named_pi b.name (named_at proof.now.shapes b.domain) (named_at proof.now.shapes b.body)) }
+{
+    match proof.shape(term) {
+        Shape::Pi(x, domain, body) => {
+            let name = x.copy()?;
+            let (domain, body) = (*domain, *body);
+            Ok(Binder {
+                term,
+                name,
+                domain,
+                body,
+            })
+        }
+        _ => unreachable!(),
+    }
+}
+
+/// The judgement of a product in a context, at the cost of inference, and what its node is made of: the judgement of its
+/// domain, and that of its body where the domain is assumed. The names stand for the entries of the context, the
+/// outermost first; flaws show them.
+///
+/// # Errors
+///
+/// As those of `infer`.
+#[tactic(auto, using(pts_grow::proofs::Grow::keeping, pts_reduce::proofs::Paid::later, crate::proofs::Refusals::inferences))]
+pub fn infer_product(
+    system: &System,
+    front: &Context,
+    proof: &mut Record,
+    ctx: usize,
+    names: &[Name],
+    term: usize,
+    meter: &mut Meter,
+) -> Result<ProductParts, InferFault>
+    requires ctx { ctx < length proof.old.nodes }
+    requires typed { IsTypedContext proof.old ctx }
+    requires term { term < length proof.old.shapes }
+    requires product { is_some (as_product (named_at proof.old.shapes term)) ≡ true }
+    ensures judged { IfOk result (λ f. (T : Named) × WithinBudget (Infers system.now front.now.entries inference_nesting (entries_of proof.old ctx) (named_at proof.old.shapes term)) (left meter.old) (comes T) (left meter.new) × IsNode proof.new f.product.node (judgement ctx (scope_of (named_told proof.old ctx)) (named_at proof.old.shapes term) T)) }
+    ensures parts { IfOk result (λ f. as_product (named_at proof.old.shapes term) ≡ Some (named_at proof.new.shapes f.domain.subject, named_at proof.new.shapes f.body.subject)) }
+    ensures formed { IfOk result (λ f. IsProduct proof.new ctx f.product f.domain f.inner f.body) }
+    ensures node { IfOk result (λ f. IsProductNode proof.new f.product.node f.domain.node f.body.node) }
+    ensures refused { IfErr result (λ e. Refused names.now (Infers system.now front.now.entries inference_nesting (entries_of proof.old ctx) (named_at proof.old.shapes term)) e (left meter.old) (left meter.new)) }
+    ensures keeps { Keeps proof.old proof.new }
+    ensures valid { IsValid system.now (bare_front front.now.entries) proof.old → IsValid system.now (bare_front front.now.entries) proof.new }
+    ensures later { Later meter.old meter.new }
+{
+    let binder = product_at(proof, term)?;
+    match product_in(system, front, proof, ctx, &binder, meter) {
+        Ok(formed) => Ok(formed),
+        Err(fault) => Err(show_fault(proof, names, fault)),
+    }
 }
 
 /// The sort test of the claim of a judgement: a judgement of the same subject whose claim is the sort, at the cost of

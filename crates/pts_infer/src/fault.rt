@@ -3,11 +3,12 @@
 ghost use Rattle.std.specs.Prelude.{◌≡◌};
 ghost use Rattle.pts_infer.specs.declared.fault.Fault.TheVariants.{Memory};
 ghost use Rattle.pts_infer.specs.declared.fault.Misfit.TheVariants as misfit;
-ghost use Rattle.pts_infer.specs.Given.{same_fault};
+ghost use Rattle.pts_infer.specs.Given.{of_reduction, same_fault};
 
 use pts_grow::TermFault;
 use pts_names::{List, Name};
 use pts_record::Boxed;
+use pts_reduce::ReduceFault;
 use pts_terms::Sort;
 use std::alloc::{AllocError, AllocFailed};
 
@@ -63,6 +64,18 @@ impl From<TermFault> for Fault {
         match fault {
             TermFault::TooLarge => Fault::Deep,
             TermFault::Memory => Fault::Memory,
+        }
+    }
+}
+
+impl From<ReduceFault> for Fault {
+    ghost from_gives = { λ r e. e ≡ of_reduction r };
+
+    fn from(fault: ReduceFault) -> Self {
+        match fault {
+            ReduceFault::Spent => Fault::Spent,
+            ReduceFault::Deep => Fault::Deep,
+            ReduceFault::Memory => Fault::Memory,
         }
     }
 }

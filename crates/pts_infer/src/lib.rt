@@ -3,29 +3,24 @@
 //! Stands on reduction, on the definition of inference at its cost, and on judgements that are added to records.
 #![tactic(auto)]
 
-mod abstractions;
 mod answer;
-mod applications;
 mod calls;
-mod closing;
-mod definitions;
 mod fault;
-mod fits;
-mod functions;
-mod inferring;
 mod judgements;
-mod leaves;
+mod judging;
+mod lent;
 mod part;
+mod parts;
 mod pay;
-mod products;
-mod reduced;
+mod rules;
 mod show;
-mod sort_tests;
 mod terms;
 mod told;
+mod type_tests;
+mod work;
 
-pub use answer::{FitFault, Flaw, FlawKind, InferFault, Typed};
-pub use calls::{fit, infer, sort_test};
+pub use answer::{FitFault, Flaw, FlawKind, InferFault, ProductParts, Typed};
+pub use calls::{fit, infer, infer_product, infer_sorted, sort_test};
 pub use part::Part;
 pub use pts_reduce::{Conversion, Meter, ReduceFault, Whnf, convert, whnf};
 pub use terms::{infer_fitted, infer_term, infer_type};

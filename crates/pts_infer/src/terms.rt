@@ -19,13 +19,11 @@ ghost use Rattle.pts_infer.specs.Answered.{Refused, Unfit, OfTerm, OfType, OfFit
 
 use crate::answer::{FitFault, InferFault, Typed};
 use crate::calls::NESTING;
-use crate::closing::close;
-use crate::fits::fit_in;
-use crate::inferring::{infer_in, sorted_in};
 use crate::judgements::Sorted;
+use crate::lent::{fit_in, infer_in, sorted_in};
 use crate::show::{show_fault, show_judged, show_misfit};
 use pts_ctx::{Context, System};
-use pts_grow::{Judged, TermFault, add_empty, take_in};
+use pts_grow::{Judged, TermFault, add_empty, close, take_in};
 use pts_record::Record;
 use pts_rules::Meter;
 use pts_terms::Term;

@@ -6,11 +6,19 @@ ghost use Rattle.pts_record.specs.Table.{named_at};
 ghost use Rattle.pts_reduce_cost.specs.Run.{fails};
 ghost use Rattle.pts_infer_cost.specs.Typing.{here, into, under, unsorted, not_a_sort, not_product, judged, of_argument, of_definition};
 ghost use Rattle.pts_infer.specs.Given.{FoundAs, MisfitsWith, ToldAs, ToldWanted, ToldOf, ShownBelow, kind_of};
+ghost use Rattle.pts_infer.specs.Works.{outward};
 
 use crate::fault::{Fault, FoundFlaw, Misfit, What};
 use pts_names::Name;
 use pts_record::Boxed;
 use std::alloc::Global;
+
+/// The way of a flaw outwards: from the part with that number, or from one under a binder.
+#[derive(Clone, Copy)]
+pub(crate) enum Way<'a> {
+    Part(u8),
+    Under(u8, &'a Name),
+}
 
 /// A flaw that is here.
 #[tactic(auto, using(crate::proofs::Outwards::shown_here))]
@@ -94,6 +102,16 @@ pub(crate) fn under_binder(alloc: Global, fault: Fault, part: u8, x: &Name) -> F
         Fault::Spent => Fault::Spent,
         Fault::Deep => Fault::Deep,
         Fault::Memory => Fault::Memory,
+    }
+}
+
+/// A fault that comes this way, shown from the whole.
+pub(crate) fn out_of(alloc: Global, fault: Fault, way: Way<'_>) -> Fault
+    ensures { (ss : List Shape) → ToldAs (outward way.entry) ss fault result }
+{
+    match way {
+        Way::Part(part) => into_part(alloc, fault, part),
+        Way::Under(part, x) => under_binder(alloc, fault, part, x),
     }
 }
 

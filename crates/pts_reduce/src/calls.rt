@@ -16,7 +16,7 @@ ghost use Rattle.pts_reduce.specs.Answered.{Refused, Answered};
 
 use crate::ReduceFault;
 use crate::answer::{Conversion, Whnf};
-use crate::chain::{join_left, reduce};
+use crate::chain::{join_left, join_right, reduce};
 use crate::fault::{Fault, FoundDifference};
 use crate::testing::convert_in;
 use pts_ctx::Context;
@@ -55,6 +55,46 @@ pub fn whnf(
             let joined = join_left(front, proof, ctx, &chain, same)?;
             Ok(Whnf {
                 term: joined.right,
+                node: joined.node,
+            })
+        }
+        Err(Fault::Spent) => Err(ReduceFault::Spent),
+        Err(Fault::Deep) => Err(ReduceFault::Deep),
+        Err(Fault::Memory) => Err(ReduceFault::Memory),
+        Err(Fault::Differ(_)) => unreachable!(),
+    }
+}
+
+/// The weak head normal form of a term, as `whnf` finds it and at the same cost; the comparison is of the form with the
+/// term.
+///
+/// # Errors
+///
+/// As those of `whnf`.
+#[tactic(auto, using(pts_grow::proofs::Grow::keeping, crate::proofs::Paid::later, pts_reduce_cost::proofs::Exact::reductions_exact, pts_record::proofs::Compared::same_number))]
+pub fn whnf_turned(
+    front: &Context,
+    proof: &mut Record,
+    ctx: usize,
+    term: usize,
+    meter: &mut Meter,
+) -> Result<Whnf, ReduceFault>
+    requires ctx { ctx < length proof.old.nodes }
+    requires context { is_context (named_told proof.old ctx) ≡ true }
+    requires term { term < length proof.old.shapes }
+    ensures outcome { IfOk result (λ w. WithinBudget (Reduces front.now.entries (entries_of proof.old ctx) (named_at proof.old.shapes term)) (units meter.old) (form (named_at proof.new.shapes w.term)) (units meter.new)) }
+    ensures node { IfOk result (λ w. Compares proof.new ctx (record { left = w.term; right = term; node = w.node })) }
+    ensures refused { IfErr result (λ e. Refused (Reduces front.now.entries (entries_of proof.old ctx) (named_at proof.old.shapes term)) too_large e (units meter.old) (units meter.new)) }
+    ensures keeps { Keeps proof.old proof.new }
+    ensures valid { (S : Specification) → IsValid S (bare_front front.now.entries) proof.old → IsValid S (bare_front front.now.entries) proof.new }
+    ensures meter { Later meter.old meter.new }
+{
+    match reduce(front, proof, ctx, term, meter) {
+        Ok(chain) => {
+            let same = add_same(proof, ctx, chain.form, chain.form)?;
+            let joined = join_right(front, proof, ctx, &chain, same)?;
+            Ok(Whnf {
+                term: joined.left,
                 node: joined.node,
             })
         }

@@ -15,6 +15,6 @@ mod step;
 mod testing;
 
 pub use answer::{Conversion, Whnf};
-pub use calls::{convert, whnf};
+pub use calls::{convert, whnf, whnf_turned};
 pub use fault::ReduceFault;
 pub use pts_rules::Meter;
