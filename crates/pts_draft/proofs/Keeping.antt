@@ -1,10 +1,11 @@
 -- What is sure of a draft stays so, whatever is done to it.
-use Rattle.std.proofs.Common.{◌≡◌, ℕ, ◌-◌, ◌≤◌, List, [], ◌∷◌, ◌++◌, length, take, true, None, sym, ap, ◌∙◌, subst}
-use Rattle.std.proofs.lemmas.List.{append-nil, append_assoc, map-append}
+use Rattle.std.proofs.Common.{◌≡◌, ℕ, ◌-◌, ◌≤◌, List, [], ◌∷◌, ◌++◌, length, take, drop, None, sym, ap, ◌∙◌, subst, arith}
+use Rattle.std.proofs.lemmas.List.{append-nil, append_assoc, map-append, length-append}
+use Rattle.std.proofs.Math.Seq.{drop-append_seam}
 use Rattle.pts_names.specs.Name.{Name}
 use Rattle.pts_ctx.specs.System.{Specification}
 use Rattle.pts_ctx.specs.Front.{Global, bare_front}
-use Rattle.pts_ctx.specs.Seen.{IsPrefix, LabelsInside, NamesDiffer, globals_within}
+use Rattle.pts_ctx.specs.Seen.{IsPrefix, LabelsInside, NamesDiffer}
 use Rattle.pts_record.specs.declared.declaration.Declaration.{Declaration}
 use Rattle.pts_rules.specs.Derives.{Legal}
 use Rattle.pts_check.specs.Entered.{declared, declared_entries, MayEnter, MayFollow}
@@ -12,7 +13,7 @@ use Rattle.pts_check.proofs.Entering.{follow_more}
 use Rattle.pts_core.specs.Replies.{LabelledFront}
 use Rattle.pts_draft.specs.Drafts.{KeepsDraft, first_taken}
 use Rattle.pts_draft.proofs.Following.{follow_take, follow_thin}
-use Rattle.pts_draft.proofs.Freeness.{follow_differ, follow_within, count_inside, fewer_entries, labels_stay}
+use Rattle.pts_draft.proofs.Freeness.{follow_differ, count_inside, fewer_entries, labels_stay}
 
 -- A draft without declarations.
 pub kept_new : (S : Specification) (F G : LabelledFront) (ds : List Declaration) → Legal S (bare_front F.entries) → ds ≡ [] → G.entries ≡ F.entries → G.labels ≡ F.labels → KeepsDraft S F G ds
@@ -59,6 +60,15 @@ module _ (S : Specification) (F G : LabelledFront) (ds : List Declaration) (k : 
     scope_labels = l ∙ k.scope_labels;
   }
 
+  -- The entries of the declarations are those of the scope after the front.
+  pub kept_rest : drop (length F.entries) G.entries ≡ declared_entries ds
+  kept_rest = ap (drop (length F.entries)) k.scope_entries ∙ drop-append_seam F.entries (declared_entries ds)
+
+  pub kept_front_inside : length F.entries ≤ length G.entries
+  kept_front_inside =
+      let l = ap length k.scope_entries ∙ length-append F.entries (declared_entries ds) in
+      omega (arith, l)
+
   -- The same declarations over a longer front E, in which their names are free.
   module _ (E : LabelledFront) (longer : IsPrefix F.entries E.entries) (free : first_taken E.entries ds ≡ None) where
     pub moved_follow : MayFollow S E.entries ds
@@ -66,9 +76,6 @@ module _ (S : Specification) (F G : LabelledFront) (ds : List Declaration) (k : 
 
     pub moved_differ : NamesDiffer E.entries → NamesDiffer (E.entries ++ declared_entries ds)
     moved_differ n = follow_differ S E.entries ds n moved_follow
-
-    pub moved_within : globals_within (declared_entries ds) ≡ true
-    moved_within = follow_within S E.entries ds moved_follow
 
     pub kept_moved : (H : LabelledFront) → Legal S (bare_front E.entries) → H.entries ≡ E.entries ++ declared_entries ds → H.labels ≡ E.labels → KeepsDraft S E H ds
     kept_moved H l h n = record { sure = record { legal = l; follow = moved_follow }; scope_entries = h; scope_labels = n }

@@ -18,7 +18,7 @@ ghost use Rattle.pts_draft.specs.Refusals.{IsTaken, RefusesStated};
 
 use crate::copies::copies_of;
 use crate::fault::DraftFault;
-use crate::scopes::{extend, first_taken, scope_of};
+use crate::scopes::{extend, first_taken, scope_over};
 use pts_check::concluded_limits;
 use pts_core::Offer;
 use pts_ctx::{Context, System};
@@ -230,8 +230,8 @@ impl Draft {
 
     /// Moves to a front that begins with the present one and is legal.
     ///
-    /// The names of the declarations are looked up in the new front, each once, and nothing is inferred. The new front is copied
-    /// once, for the scope, and so are the names and the terms of the declarations; no record is looked at or copied.
+    /// The names of the declarations are looked up in the new front, each once. The new front is copied once, for the scope,
+    /// which shares the entries of the declarations with the old one; no term is inferred, looked at or copied.
     ///
     /// # Errors
     ///
@@ -251,7 +251,7 @@ impl Draft {
             return Err(DraftFault::Taken(name.copy()?, place));
         }
         front.is_orderly();
-        let scope = scope_of(self.alloc, &front, &self.declarations)?;
+        let scope = scope_over(&front, &mut self.scope, self.front.len())?;
         self.front = front;
         self.scope = scope;
         Ok(())

@@ -1,10 +1,10 @@
 // Fronts with declarations after them.
 
-ghost use Rattle.std.specs.Prelude.{◌≡◌, ◌<◌, ◌≤◌, ◌+◌, ◌∷◌, ◌++◌, [], true, IfOk, OnOk, OnErr};
+ghost use Rattle.std.specs.Prelude.{◌≡◌, ◌<◌, ◌≤◌, ◌+◌, ◌∷◌, ◌++◌, [], drop, length, true, IfOk, OnOk, OnErr};
 ghost use Rattle.std.specs.Option.{option_map};
 ghost use Rattle.pts_ctx.specs.Front.{Fresh};
-ghost use Rattle.pts_ctx.specs.Seen.{NamesDiffer, global_within, globals_within};
-ghost use Rattle.pts_check.specs.Entered.{declared, declared_entries};
+ghost use Rattle.pts_ctx.specs.Seen.{NamesDiffer, global_within};
+ghost use Rattle.pts_check.specs.Entered.{declared};
 ghost use Rattle.pts_draft.specs.Drafts.{first_taken};
 
 use crate::copies::entry_of;
@@ -28,23 +28,21 @@ pub(crate) fn first_taken<'a>(
     None
 }
 
-/// A front with copies of the entries of declarations after it.
-pub(crate) fn scope_of(
-    alloc: Global,
+/// A front with the entries of a scope from a place on after it, which the two share.
+pub(crate) fn scope_over(
     front: &Context,
-    declarations: &[Declaration],
+    scope: &mut Context,
+    from: usize,
 ) -> Result<Context, AllocError>
-    requires names { NamesDiffer (front.now.entries ++ declared_entries declarations.now) }
-    requires within { globals_within (declared_entries declarations.now) ≡ true }
-    ensures entries { IfOk result (λ c. c.entries ≡ front.now.entries ++ declared_entries declarations.now) }
+    requires inside { from ≤ length scope.old.entries }
+    requires differ { NamesDiffer (front.now.entries ++ drop from scope.old.entries) }
+    ensures entries { IfOk result (λ c. c.entries ≡ front.now.entries ++ drop from scope.old.entries) }
     ensures labels { IfOk result (λ c. c.labels ≡ front.now.labels) }
+    ensures scope { scope.new ≡ scope.old }
 {
-    let mut scope = front.copy()?;
-    scope.reserve(declarations.len(), 0)?;
-    for declaration in declarations {
-        push_entry(alloc, &mut scope, declaration)?;
-    }
-    Ok(scope)
+    let mut longer = front.copy()?;
+    longer.extend_from(scope, from)?;
+    Ok(longer)
 }
 
 /// Adds a declaration after others, and a copy of its entry to their scope. Where memory runs out nothing is added.

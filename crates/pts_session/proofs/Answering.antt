@@ -1,20 +1,23 @@
 -- The answers of a core, as its sessions see them.
-use Rattle.std.proofs.Common.{◌≡◌, ℕ, Bool, true, false, if◌then◌else◌, List, [], ◌∷◌, ◌++◌, length, Option, Some, None, IfSome, sym, subst}
+use Rattle.std.proofs.Common.{◌≡◌, ℕ, Bool, true, false, if◌then◌else◌, List, [], ◌∷◌, ◌++◌, length, Option, Some, None, IfSome, Result, Ok, Err, IfOk, IfErr, sym, ◌∙◌, subst}
+use Rattle.std.proofs.lemmas.List.{append-nil}
 use Rattle.std.specs.Option.{option_map, option_or, unwrap_or}
 use Rattle.std.specs.Prelude.{nat_le, ◌+◌}
 use Rattle.pts_names.specs.Name.{Name}
 use Rattle.pts_ctx.specs.System.{Specification}
 use Rattle.pts_ctx.specs.Front.{Global}
-use Rattle.pts_ctx.specs.Seen.{label_place}
+use Rattle.pts_ctx.specs.Seen.{IsPrefix, label_place}
 use Rattle.pts_core.specs.declared.finding.Finding.{Finding}
 use Rattle.pts_core.specs.declared.finding.Finding.TheVariants as finding
 use Rattle.pts_core.specs.declared.reply.Reply.{Reply}
 use Rattle.pts_core.specs.declared.reply.Reply.TheVariants.{Loaded, ContextFull}
 use Rattle.pts_core.specs.declared.port.Answer.{Answer}
+use Rattle.pts_core.specs.declared.port.PortFault.{PortFault}
+use Rattle.pts_core.specs.declared.port.PortFault.TheVariants.{HistoryFull, Memory}
 use Rattle.pts_core.specs.Replies.{LabelledFront, first_clash, faulty_reply, loaded_reply, clash_reply, full_reply, refusal_reply}
 use Rattle.pts_core.specs.Histories.{Past, replay}
 use Rattle.pts_core.specs.Cores.{SeenCore, IsLegalCore, front_of}
-use Rattle.pts_core.specs.Ports.{AfterOthers, IsAnswer}
+use Rattle.pts_core.specs.Ports.{AfterOthers, IsAnswer, IsNoAnswer}
 use Rattle.pts_core.proofs.Fronts.{fronts_stay}
 use Rattle.pts_session.specs.declared.request.Awaited.TheVariants as awaited
 use Rattle.pts_session.specs.declared.request.Request.{Request}
@@ -71,6 +74,15 @@ refusal_fits F es l f =
 may_be : (n : ℕ) (q : Request) (F : LabelledFront) → MayBeReply (awaited_after q) (event_of n q F).reply
 may_be n request.Look F = tt
 may_be n (request.Submit x) F = unwrap_fits (refusal_reply F _ x.offer.label x.finding) _ (refusal_fits F _ x.offer.label x.finding) tt
+
+-- Whether there is an answer or not, the history goes on from what it was.
+no_answer_goes_on : (e : PortFault) (h k : List Past) → IsNoAnswer e h k → IsPrefix h k
+no_answer_goes_on (HistoryFull n) h k i = ([], append-nil h ∙ sym i.0)
+no_answer_goes_on Memory h k i = ([], append-nil h ∙ sym i)
+
+pub history_goes_on : (r : Result Answer PortFault) (event : LabelledFront → Past) (h k : List Past) → IfOk r (λ a. IsAnswer event h k a) → IfErr r (λ e. IsNoAnswer e h k) → IsPrefix h k
+history_goes_on (Ok a) event h k i j = (event (replay h) ∷ [], sym i.later)
+history_goes_on (Err e) event h k i j = no_answer_goes_on e h k j
 
 -- An event that is answered leaves a front that goes on from the one before it.
 grows : (h k : List Past) (e : Past) → k ≡ h ++ e ∷ [] → GoesOn (replay h) (replay k)

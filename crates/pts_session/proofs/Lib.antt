@@ -8,3 +8,4 @@ pub mod Ran
 pub mod Moved
 pub mod Entering
 pub mod Listed
+pub mod Once

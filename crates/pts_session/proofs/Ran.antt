@@ -1,8 +1,11 @@
 -- A line that is run through a port.
-use Rattle.std.proofs.Common.{◌≡◌, ℕ, List, [], ◌∷◌, Some, None, sym, ◌∙◌, subst}
+use Rattle.std.proofs.Common.{◌≡◌, ℕ, List, [], ◌∷◌, Some, None, Result, Ok, Err, IfErr, sym, ◌∙◌, subst}
+use Rattle.std.specs.Result.{IsErrAnd}
 use Rattle.std.proofs.lemmas.Option.{same_Some}
 use Rattle.pts_ctx.specs.System.{Specification}
 use Rattle.pts_core.specs.declared.port.Answer.{Answer}
+use Rattle.pts_core.specs.declared.port.PortFault.{PortFault}
+use Rattle.pts_core.specs.declared.port.PortFault.TheVariants.{Memory}
 use Rattle.pts_core.specs.Replies.{LabelledFront}
 use Rattle.pts_core.specs.Histories.{Past}
 use Rattle.pts_core.specs.Ports.{AfterOthers, IsAnswer}
@@ -13,7 +16,7 @@ use Rattle.pts_session.specs.Lines.{ComesTo}
 use Rattle.pts_session.specs.Answers.{Resume}
 use Rattle.pts_session.specs.Seen.{SeenSession}
 use Rattle.pts_session.specs.Players.{AnswersAt, MayHear, RunsLine, Hears, IsFree, FitsTo}
-use Rattle.pts_session.specs.Ports.{MayAsk, event_of, no_call, one_call, RanLine}
+use Rattle.pts_session.specs.Ports.{MayAsk, event_of, IsAnswered, IsNotAnswered, no_call, one_call, RanLine, DidNotRun, asked_nothing, was_not_answered, lost_its_replies}
 use Rattle.pts_session.specs.Playing as playing
 
 -- A line that is done by itself.
@@ -57,3 +60,20 @@ module _ (S : Specification) (s t : SeenSession) (text : List ℕ) (q : Request)
             runs = is_answered a (line_asks begins l) (subst (λ v. Resume (record { state = t.state; awaited = v }) a out u.state) same h.resumes);
             makes = one_call (record { request = q; answer = a }) after;
           }
+
+-- A fault that is handed on is one of which this holds.
+if_err : {T E : Type 0} (r : Result T E) (e : E) (P : E → Type 0) → IsErrAnd r (λ x. x ≡ e) → P e → IfErr r P
+if_err (Ok x) e P h p = tt
+if_err (Err f) e P h p = subst P (sym h) p
+
+-- A line that did not run to its end.
+module _ (S : Specification) (s t : SeenSession) (text : List ℕ) (n : ℕ) (may_come : List Past → Type 0) (h k : List Past) {T : Type 0} (r : Result T PortFault) where
+  pub nothing_asked : IsErrAnd r (λ e. e ≡ Memory) → k ≡ h → IfErr r (DidNotRun n may_come S h s.state text k)
+  nothing_asked m same = if_err r Memory (DidNotRun n may_come S h s.state text k) m (asked_nothing same)
+
+  module _ (q : Request) (l : ComesTo S s.state text (asks q (record { state = t.state; awaited = awaited_after q }))) where
+    pub not_answered : (e : PortFault) → IsErrAnd r (λ x. x ≡ e) → IsNotAnswered n may_come h e k → IfErr r (DidNotRun n may_come S h s.state text k)
+    not_answered e m i = if_err r e (DidNotRun n may_come S h s.state text k) m (was_not_answered q (record { state = t.state; awaited = awaited_after q }) l i)
+
+    pub replies_lost : (a : Answer) → IsErrAnd r (λ e. e ≡ Memory) → IsAnswered n may_come h q a k → IfErr r (DidNotRun n may_come S h s.state text k)
+    replies_lost a m i = if_err r Memory (DidNotRun n may_come S h s.state text k) m (lost_its_replies q (record { state = t.state; awaited = awaited_after q }) a l i)

@@ -1,9 +1,11 @@
 -- The lines that declare: `assume X : TERM`, `define X := TERM`, `define X : TERM := TERM`.
-use Rattle.std.specs.Prelude.{◌≡◌, ℕ, List, [], ◌∷◌, ◌++◌, codes, Some, None, Result, Ok, Err}
+use Rattle.std.specs.Prelude.{◌≡◌, ℕ, List, [], ◌∷◌, ◌++◌, codes, Option, Some, None, option_map, Result, Ok, Err}
 use Rattle.pts_ctx.specs.System.{Specification}
 use Rattle.pts_ctx.specs.Front.{Global}
 use Rattle.pts_ctx.specs.Seen.{place_of}
 use Rattle.pts_names.specs.Name.{Name}
+use Rattle.pts_grammar.specs.Seen.{syntax_of}
+use Rattle.pts_grammar.specs.declared.tree.Tree.{Tree}
 use Rattle.pts_parser.specs.declared.fault.ReadFault.{ReadFault}
 use Rattle.pts_reduce_cost.specs.Laws.{WithinBudget, AboveBudget}
 use Rattle.pts_infer_cost.specs.Typing.{Stop, moved, comes, stops}
@@ -17,15 +19,23 @@ use Rattle.pts_queries.specs.Reading.{known_name}
 use Rattle.pts_queries.specs.Replies.{refusal, declared_line}
 use Rattle.pts_session.specs.State.{State, scope, changed}
 
+-- The definition of a name by a text, with its type if one is given.
+abbrev pub defines_by : Name → Option Tree → Tree → Statement
+defines_by x A t = defines x (option_map syntax_of A) (syntax_of t)
+
 -- The first word of the reply.
 abbrev pub word_of : Statement → List ℕ
 word_of (assumes x A) = codes "assumed"
 word_of (defines x A t) = codes "defined"
 
+-- What is stated, its names and sorts looked up over a front; or the first of these that is unknown.
+abbrev pub stated_in : Specification → List (Global Name) → Statement → Result Stated ReadFault
+stated_in S G d = stated S.sorts (known_name G) d
+
 module _ (S : Specification) (s : State) where
-  -- What is stated, its names and sorts looked up over the scope; or the first of these that is unknown.
+  -- The same over the scope.
   abbrev pub stated_over : Statement → Result Stated ReadFault
-  stated_over d = stated S.sorts (known_name (scope s)) d
+  stated_over d = stated_in S (scope s) d
 
   -- The entry of a declaration comes after those of the draft.
   abbrev pub with_entry : Global Name → State

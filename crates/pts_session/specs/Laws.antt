@@ -5,9 +5,10 @@ use Rattle.pts_core.specs.declared.port.Answer.{Answer}
 use Rattle.pts_core.specs.Replies.{LabelledFront}
 use Rattle.pts_play.specs.Machines.{done, asks}
 use Rattle.pts_session.specs.declared.request.Request.{Request}
-use Rattle.pts_session.specs.State.{State, Waiting, awaited_after, IsRequestOf}
+use Rattle.pts_session.specs.State.{State, Waiting, Came, awaited_after, IsRequestOf}
 use Rattle.pts_session.specs.Lines.{ComesTo}
 use Rattle.pts_session.specs.Answers.{front_in, Resume}
+use Rattle.pts_session.specs.Ports.{event_of}
 
 -- A line keeps the base: only an answer moves it.
 abbrev pub LinesKeepTheBase : Type 0
@@ -24,3 +25,20 @@ pub data HasBase (s : State) (a : Answer) (F : LabelledFront) : Type 0 where
 
 abbrev pub AnswersMoveTheBase : Type 0
 AnswersMoveTheBase = (w : Waiting) (a : Answer) (replies : List (List ℕ)) (t : State) → Resume w a replies t → HasBase w.state a t.base
+
+-- Two requests are the same event, of any session and at any front.
+abbrev pub AsksTheSame : Request → Request → Type 0
+AsksTheSame q r = (n : ℕ) (F : LabelledFront) → event_of n q F ≡ event_of n r F
+
+-- Two outcomes are one: the same replies and the same state; or requests that ask the same, with the same left to be done.
+pub data IsOneOutcome : Came → Came → Type 0 where
+  both_done : {replies : List (List ℕ)} {t : State} → IsOneOutcome (done replies t) (done replies t)
+  both_ask : {q r : Request} {w : Waiting} → AsksTheSame q r → IsOneOutcome (asks q w) (asks r w)
+
+-- A line has one outcome at most.
+abbrev pub LinesHaveOneOutcome : Type 0
+LinesHaveOneOutcome = (S : Specification) (s : State) (text : List ℕ) (o p : Came) → ComesTo S s text o → ComesTo S s text p → IsOneOutcome o p
+
+-- An answer leads to one list of replies at most, and to one state.
+abbrev pub AnswersHaveOneOutcome : Type 0
+AnswersHaveOneOutcome = (w : Waiting) (a : Answer) (k l : List (List ℕ)) (t u : State) → Resume w a k t → Resume w a l u → (k ≡ l) × (t ≡ u)

@@ -5,6 +5,7 @@ pub mod Lines
 pub mod Answers
 pub mod Laws
 pub mod Seen
+pub mod Drafting
 pub mod Players
 pub mod Ports
 pub mod Plain

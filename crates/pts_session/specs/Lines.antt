@@ -1,5 +1,5 @@
 -- What a line of a session comes to: it is no line; or it may not be given now; or it is done.
-use Rattle.std.specs.Prelude.{◌≡◌, ◌≢◌, ◌≤◌, ℕ, List, [], ◌∷◌, map, length, codes, Option, Some, None, option_map, Bool, true, false, not, ◌||◌, nat_lt, if◌then◌else◌}
+use Rattle.std.specs.Prelude.{◌≡◌, ◌≢◌, ◌≤◌, ℕ, List, [], ◌∷◌, map, length, codes, Option, Some, None, Bool, true, false, not, ◌||◌, nat_lt, if◌then◌else◌}
 use Rattle.pts_ctx.specs.System.{Specification}
 use Rattle.pts_names.specs.Name.{Name}
 use Rattle.pts_grammar.specs.Seen.{syntax_of}
@@ -14,14 +14,14 @@ use Rattle.pts_lines.specs.Reading.{SaysLine, FewOpen, RefusesText}
 use Rattle.pts_lines.specs.Seen.{line_of, deepest, terms_of}
 use Rattle.pts_play.specs.Machines.{done, asks}
 use Rattle.pts_core.specs.Cores.{SeenExamined}
-use Rattle.pts_statement.specs.Statements.{assumes, defines}
+use Rattle.pts_statement.specs.Statements.{assumes}
 use Rattle.pts_queries.specs.Replies.{refusal, shown_line}
 use Rattle.pts_queries.specs.Queries.{AnswersInfer, AnswersReduce, AnswersEqual, AnswersShow}
 use Rattle.pts_session.specs.declared.request.Awaited.TheVariants as awaited
 use Rattle.pts_session.specs.declared.request.Request.TheVariants as request
 use Rattle.pts_session.specs.State.{State, Came, scope, changed, OffersDraft}
 use Rattle.pts_session.specs.Replies.{count_line}
-use Rattle.pts_session.specs.Declaring.{Declares}
+use Rattle.pts_session.specs.Declaring.{Declares, defines_by}
 
 -- The lines that are built.
 abbrev pub is_built : Line → Bool
@@ -72,7 +72,7 @@ module _ (S : Specification) (s : State) where
     looks : Does Look (asks request.Look (record { state = s; awaited = awaited.Look }))
     commits : {x : SeenExamined} → OffersDraft S s x → Does Commit (asks (request.Submit x) (record { state = s; awaited = awaited.Submission }))
     assumes_type : {x : Name} {A : Tree} {replies : List (List ℕ)} {t : State} → Declares S s (assumes x (syntax_of A)) replies t → Does (Assume x A) (done replies t)
-    defines_name : {x : Name} {A : Option Tree} {b : Tree} {replies : List (List ℕ)} {t : State} → Declares S s (defines x (option_map syntax_of A) (syntax_of b)) replies t → Does (Define x A b) (done replies t)
+    defines_name : {x : Name} {A : Option Tree} {b : Tree} {replies : List (List ℕ)} {t : State} → Declares S s (defines_by x A b) replies t → Does (Define x A b) (done replies t)
     sets_budget : {n : ℕ} → Does (Budget n) (done (count_line (codes "budget") n ∷ []) (changed s (record s { budget = n })))
     infers : {t : Tree} {line : List ℕ} → AnswersInfer S (scope s) s.budget (syntax_of t) line → Does (Infer t) (done (line ∷ []) s)
     reduces : {t : Tree} {line : List ℕ} → AnswersReduce S (scope s) s.budget (syntax_of t) line → Does (Reduce t) (done (line ∷ []) s)

@@ -6,6 +6,7 @@ use Rattle.pts_session.specs.declared.request.Awaited.{Awaited}
 use Rattle.pts_session.specs.declared.request.Awaited.TheVariants as awaited
 use Rattle.pts_session.specs.State.{State}
 use Rattle.pts_session.specs.Replies.{taken_line}
+use Rattle.pts_session.specs.Answers.{first_taken}
 
 -- It waits for the answer to a look.
 abbrev pub is_look : Option Awaited → Bool
@@ -22,3 +23,7 @@ moved_lines (Some t) = taken_line t.0 t.1 ∷ []
 abbrev pub moved_state : State → LabelledFront → Option (Name × ℕ) → State
 moved_state s F None = record s { base = F }
 moved_state s F (Some t) = s
+
+-- The same by the first name of its draft that is taken.
+abbrev pub moved_to : State → LabelledFront → State
+moved_to s F = moved_state s F (first_taken F.entries s.draft)

@@ -64,10 +64,14 @@ answers_move w a replies t (stays l r f n) = old_base refl
 answers_move w a replies t (has_entered l r f) = new_base f
 answers_move w a replies t (has_not_entered l r f) = old_base refl
 
--- One front that goes on from another goes on from that from which the other does.
-prefix_on : {A : Type 0} (xs ys zs : List A) → IsPrefix xs ys → IsPrefix ys zs → IsPrefix xs zs
+-- A list begins with itself, and with what a list begins with that it begins with.
+pub prefix_of_itself : {A : Type 0} (xs : List A) → IsPrefix xs xs
+prefix_of_itself xs = ([], append-nil xs)
+
+pub prefix_on : {A : Type 0} (xs ys zs : List A) → IsPrefix xs ys → IsPrefix ys zs → IsPrefix xs zs
 prefix_on xs ys zs (a, p) (b, q) = (a ++ b, sym (append_assoc xs a b) ∙ (ap (λ l. l ++ b) p ∙ q))
 
+-- One front that goes on from another goes on from that from which the other does.
 pub goes_further : (F G H : LabelledFront) → GoesOn F G → GoesOn G H → GoesOn F H
 goes_further F G H a b = record { entries = prefix_on F.entries G.entries H.entries a.entries b.entries; labels = prefix_on F.labels G.labels H.labels a.labels b.labels }
 
@@ -138,7 +142,7 @@ module _ (S : Specification) where
     where
       by : (B : LabelledFront) → HasBase s.state a B → GoesOn B G
       by B (old_base same) = subst (λ b. GoesOn b G) (sym same) (goes_further s.state.base F G f.base h.goes_on)
-      by B (new_base came) = subst (λ b. GoesOn b G) (sym (handed_is (reply_in a) B G (sym h.handed ∙ came))) (record { entries = ([], append-nil G.entries); labels = ([], append-nil G.labels) })
+      by B (new_base came) = subst (λ b. GoesOn b G) (sym (handed_is (reply_in a) B G (sym h.handed ∙ came))) (record { entries = prefix_of_itself G.entries; labels = prefix_of_itself G.labels })
 
   pub others : (s : SeenSession) (a : Answer) (T U : Specification) (F G : LabelledFront) (q : Request) → FitsTo S s T F → AnswersAt T F (awaited_after q) a G → U ≡ T → FitsTo S s U G
   others s a T U F G q f h e = record { system = f.system; core = e ∙ f.core; base = goes_further s.state.base F G f.base h.goes_on }

@@ -1,12 +1,13 @@
 // Requests are put to a core, or through a port.
 
 ghost use Rattle.std.specs.Prelude.{◌≡◌, IfOk, IfErr};
+ghost use Rattle.pts_ctx.specs.Seen.{IsPrefix};
 ghost use Rattle.pts_core.specs.Histories.{replay};
 ghost use Rattle.pts_core.specs.Cores.{front_of};
-ghost use Rattle.pts_core.specs.Ports.{AfterOthers, IsAnswer, IsNoAnswer};
+ghost use Rattle.pts_core.specs.Ports.{IsAnswer, IsNoAnswer};
 ghost use Rattle.pts_session.specs.State.{awaited_after};
 ghost use Rattle.pts_session.specs.Players.{AnswersAt};
-ghost use Rattle.pts_session.specs.Ports.{CoreSteps, MayAsk, event_of};
+ghost use Rattle.pts_session.specs.Ports.{CoreSteps, IsAnswered, IsNotAnswered, MayAsk, event_of};
 
 use crate::request::Request;
 use pts_core::{Answer, Core, Port, PortFault};
@@ -21,7 +22,9 @@ use std::alloc::Global;
 pub(crate) fn ask_core(core: &mut Core, session: u32, request: Request) -> Result<Answer, PortFault>
     requires may { MayAsk core.old.system (replay core.old.history) request }
     ensures steps { IfOk result (λ a. CoreSteps core.old session request a core.new) }
+    ensures refused { IfErr result (λ e. IsNoAnswer e core.old.history core.new.history) }
     ensures system { core.new.system ≡ core.old.system }
+    ensures goes_on { IsPrefix core.old.history core.new.history }
 {
     core.is_legal();
     let answer = put(core, session, request)?;
@@ -30,10 +33,13 @@ pub(crate) fn ask_core(core: &mut Core, session: u32, request: Request) -> Resul
 }
 
 // The event of the request.
+#[tactic(auto, using(crate::proofs::Answering::history_goes_on))]
 fn put(core: &mut Core, session: u32, request: Request) -> Result<Answer, PortFault>
     requires may { MayAsk core.old.system (front_of core.old) request }
     ensures answered { IfOk result (λ a. IsAnswer (event_of session request) core.old.history core.new.history a) }
+    ensures refused { IfErr result (λ e. IsNoAnswer e core.old.history core.new.history) }
     ensures system { core.new.system ≡ core.old.system }
+    ensures goes_on { IsPrefix core.old.history core.new.history }
 {
     match request {
         Request::Look => core.answer_look(session),
@@ -54,9 +60,9 @@ pub(crate) fn ask_port<P: Port>(
 ) -> Result<Answer, PortFault>
     requires ready { P.ready port.old }
     requires may { MayAsk (P.system port.old) (replay (P.history port.old)) request }
-    ensures answered { IfOk result (λ a. AfterOthers (P.session port.old) (P.may_come port.old) (P.history port.old) (λ h. IsAnswer (event_of (P.session port.old) request) h (P.history port.new) a)) }
+    ensures answered { IfOk result (λ a. IsAnswered (P.session port.old) (P.may_come port.old) (P.history port.old) request a (P.history port.new)) }
     ensures answers { IfOk result (λ a. AnswersAt (P.system port.old) (replay (P.history port.old)) (awaited_after request) a (replay (P.history port.new))) }
-    ensures refused { IfErr result (λ e. AfterOthers (P.session port.old) (P.may_come port.old) (P.history port.old) (λ h. IsNoAnswer e h (P.history port.new))) }
+    ensures refused { IfErr result (λ e. IsNotAnswered (P.session port.old) (P.may_come port.old) (P.history port.old) e (P.history port.new)) }
     ensures ready { P.ready port.new }
     ensures held { P.held port.new ≡ P.held port.old }
     ensures system { P.system port.new ≡ P.system port.old }
@@ -71,8 +77,8 @@ pub(crate) fn ask_port<P: Port>(
 fn call<P: Port>(alloc: Global, port: &mut P, request: Request) -> Result<Answer, PortFault>
     requires ready { P.ready port.old }
     requires may { MayAsk (P.system port.old) (replay (P.history port.old)) request }
-    ensures answered { IfOk result (λ a. AfterOthers (P.session port.old) (P.may_come port.old) (P.history port.old) (λ h. IsAnswer (event_of (P.session port.old) request) h (P.history port.new) a)) }
-    ensures refused { IfErr result (λ e. AfterOthers (P.session port.old) (P.may_come port.old) (P.history port.old) (λ h. IsNoAnswer e h (P.history port.new))) }
+    ensures answered { IfOk result (λ a. IsAnswered (P.session port.old) (P.may_come port.old) (P.history port.old) request a (P.history port.new)) }
+    ensures refused { IfErr result (λ e. IsNotAnswered (P.session port.old) (P.may_come port.old) (P.history port.old) e (P.history port.new)) }
     ensures ready { P.ready port.new }
     ensures held { P.held port.new ≡ P.held port.old }
     ensures system { P.system port.new ≡ P.system port.old }

@@ -1,24 +1,20 @@
 // The lines that declare, over a draft.
 
-ghost use Rattle.std.specs.Prelude.{◌≡◌, ◌≢◌, ◌<◌, ◌-◌, ◌∷◌, ◌++◌, [], ℕ, List, length, take, Ok, IfOk, IfErr, OnOk, OnErr, option_map};
-ghost use Rattle.pts_names.specs.Name.{Name as Named};
-ghost use Rattle.pts_ctx.specs.Front.{Global as Entered};
+ghost use Rattle.std.specs.Prelude.{◌≡◌, ◌≢◌, ◌<◌, ◌-◌, ◌∷◌, [], length, take, IfOk, IfErr, OnOk, OnErr};
 ghost use Rattle.pts_grammar.specs.Seen.{syntax_of};
 ghost use Rattle.pts_rules.specs.Meter.{left};
-ghost use Rattle.pts_record.specs.declared.declaration.Declaration.{Declaration};
 ghost use Rattle.pts_check.specs.Entered.{declared};
 ghost use Rattle.pts_declare.specs.Stated.{stated_of};
-ghost use Rattle.pts_statement.specs.Statements.{Statement, assumes, defines, name_of, stated};
+ghost use Rattle.pts_statement.specs.Statements.{assumes};
 ghost use Rattle.pts_statement.specs.Refusals.{AnswersStated};
 ghost use Rattle.pts_draft.specs.Drafts.{IsDeclared};
 ghost use Rattle.pts_draft.specs.Refusals.{RefusesStated};
 ghost use Rattle.pts_draft.specs.declared.fault.DraftFault.{DraftFault};
-ghost use Rattle.pts_queries.specs.Reading.{known_name};
 ghost use Rattle.pts_parser.specs.declared.fault.ReadFault.{ReadFault};
 ghost use Rattle.pts_parser.specs.FaultText.{read_text};
-ghost use Rattle.pts_queries.specs.Replies.{declared_line, refusal};
-ghost use Rattle.pts_session.specs.Declaring.{Declares, stated_over, word_of};
-ghost use Rattle.pts_session.specs.Seen.{state_of};
+ghost use Rattle.pts_queries.specs.Replies.{refusal};
+ghost use Rattle.pts_session.specs.Declaring.{defines_by, stated_in};
+ghost use Rattle.pts_session.specs.Drafting.{DeclaresIn, DeclaresStated, ShowsLast};
 ghost use Rattle.pts_session.specs.Faults.{fault_line};
 
 use crate::replies::{one, unread_line};
@@ -42,7 +38,7 @@ pub(crate) fn assume(
     ty: &Tree,
 ) -> Result<Vec<Text>, AllocError>
     requires system { system.now ≡ draft.old.system }
-    ensures declares { IfOk result (λ lines. Declares system.now (state_of draft.old budget) (assumes name.now (syntax_of ty.now)) lines.items (state_of draft.new budget)) }
+    ensures declares { IfOk result (λ lines. DeclaresIn system.now budget draft.old (assumes name.now (syntax_of ty.now)) lines.items draft.new) }
     ensures system { draft.new.system ≡ draft.old.system }
     ensures same { OnErr result (draft.new ≡ draft.old) }
 {
@@ -63,7 +59,7 @@ pub(crate) fn define(
     body: &Tree,
 ) -> Result<Vec<Text>, AllocError>
     requires system { system.now ≡ draft.old.system }
-    ensures declares { IfOk result (λ lines. Declares system.now (state_of draft.old budget) (defines name.now (option_map syntax_of ty.now) (syntax_of body.now)) lines.items (state_of draft.new budget)) }
+    ensures declares { IfOk result (λ lines. DeclaresIn system.now budget draft.old (defines_by name.now ty.now body.now) lines.items draft.new) }
     ensures system { draft.new.system ≡ draft.old.system }
     ensures same { OnErr result (draft.new ≡ draft.old) }
 {
@@ -81,7 +77,7 @@ fn assumed(
     name: &Name,
     ty: &Tree,
 ) -> Result<Stated, ReadFault>
-    ensures { AnswersStated result (stated system.now.sorts (known_name scope.now.entries) (assumes name.now (syntax_of ty.now))) }
+    ensures { AnswersStated result (stated_in system.now scope.now.entries (assumes name.now (syntax_of ty.now))) }
 {
     let _ = name;
     let ty = resolve(alloc, ty, system, &[], &FrontScope::of(scope))?;
@@ -97,7 +93,7 @@ fn defined(
     ty: &Option<Tree>,
     body: &Tree,
 ) -> Result<Stated, ReadFault>
-    ensures { AnswersStated result (stated system.now.sorts (known_name scope.now.entries) (defines name.now (option_map syntax_of ty.now) (syntax_of body.now))) }
+    ensures { AnswersStated result (stated_in system.now scope.now.entries (defines_by name.now ty.now body.now)) }
 {
     let _ = name;
     let scope = FrontScope::of(scope);
@@ -122,7 +118,7 @@ fn declare(
     stated: &Stated,
 ) -> Result<Vec<Text>, AllocError>
     requires system { system.now ≡ draft.old.system }
-    ensures declares { IfOk result (λ lines. (d : Statement) → name_of d ≡ name.now → word_of d ≡ word.now → stated_over system.now (state_of draft.old budget) d ≡ Ok (stated_of stated.now) → Declares system.now (state_of draft.old budget) d lines.items (state_of draft.new budget)) }
+    ensures declares { IfOk result (λ lines. DeclaresStated system.now budget draft.old word.now name.now (stated_of stated.now) lines.items draft.new) }
     ensures system { draft.new.system ≡ draft.old.system }
     ensures same { OnErr result (draft.new ≡ draft.old) }
 {
@@ -164,7 +160,7 @@ fn entered(
     word: &str,
 ) -> Result<Vec<Text>, AllocError>
     requires some { 0 < length draft.old.declarations }
-    ensures lines { IfOk result (λ lines. (ds : List Declaration) (d : Declaration) → draft.old.declarations ≡ ds ++ d ∷ [] → lines.items ≡ declared_line system.now.sorts word.now (declared d) ∷ []) }
+    ensures lines { IfOk result (λ lines. ShowsLast system.now word.now declared draft.old.declarations lines.items) }
     ensures kept { OnOk result (draft.new ≡ draft.old) }
     ensures dropped { OnErr result (draft.new.declarations ≡ take (length draft.old.declarations - 1) draft.old.declarations) }
     ensures system { draft.new.system ≡ draft.old.system }
@@ -188,7 +184,7 @@ fn last(
     word: &str,
 ) -> Result<Vec<Text>, AllocError>
     requires some { 0 < length scope.now.entries }
-    ensures { IfOk result (λ lines. (G : List (Entered Named)) (e : Entered Named) → scope.now.entries ≡ G ++ e ∷ [] → lines.items ≡ declared_line system.now.sorts word.now e ∷ []) }
+    ensures { IfOk result (λ lines. ShowsLast system.now word.now (λ e. e) scope.now.entries lines.items) }
 {
     let line = declared_line(alloc, system, word, scope.entry(scope.len() - 1))?;
     one(alloc, line)

@@ -8,6 +8,7 @@ mod declaring;
 mod laws;
 mod moving;
 mod players;
+mod port_table;
 mod replies;
 mod request;
 mod session;
@@ -15,8 +16,12 @@ mod table;
 mod through;
 mod world;
 
-pub use laws::{answers_move_the_base, lines_ask_for_their_state, lines_keep_the_base};
+pub use laws::{
+    answers_have_one_outcome, answers_move_the_base, lines_ask_for_their_state,
+    lines_have_one_outcome, lines_keep_the_base,
+};
 pub use players::{SessionCore, SessionPlayer};
+pub use port_table::PortTable;
 pub use pts_core::{Answer, Examined, PortFault};
 pub use pts_names::Text;
 pub use pts_play::Local;

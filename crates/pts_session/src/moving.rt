@@ -10,7 +10,7 @@ ghost use Rattle.pts_check.specs.Entered.{declared_entries};
 ghost use Rattle.pts_session.specs.Replies.{taken_line};
 ghost use Rattle.pts_session.specs.Answers.{first_taken};
 ghost use Rattle.pts_session.specs.Seen.{state_of};
-ghost use Rattle.pts_session.specs.Moves.{moved_state};
+ghost use Rattle.pts_session.specs.Moves.{moved_to};
 
 use crate::replies::taken_line;
 use pts_ctx::Context;
@@ -27,7 +27,7 @@ pub(crate) fn move_draft(
     requires longer { IsPrefix draft.old.entries front.entries }
     requires legal { Legal draft.old.system (bare_front front.entries) }
     ensures line { IfOk result (λ line. line ≡ option_map (λ t. taken_line t.0 t.1) (first_taken front.entries (declared_entries draft.old.declarations))) }
-    ensures state { OnOk result ((b : ℕ) → state_of draft.new b ≡ moved_state (state_of draft.old b) (labelled front) (first_taken front.entries (declared_entries draft.old.declarations))) }
+    ensures state { OnOk result ((b : ℕ) → state_of draft.new b ≡ moved_to (state_of draft.old b) (labelled front)) }
     ensures declarations { draft.new.declarations ≡ draft.old.declarations }
     ensures system { draft.new.system ≡ draft.old.system }
     ensures same { OnErr result (draft.new ≡ draft.old) }

@@ -31,7 +31,8 @@ pub trait SessionCore: Table<Request, Answer> {
 
     ghost may_be_asked: { (C : Self) (q : Request) → ready C → MayAsk (system C) (front C) q → Self.Table.may C q };
 
-    ghost answers: { (C D : Self) (n : ℕ) (q : Request) (a : Answer) → ready C → Self.Table.steps C n q a D → AnswersAt (system C) (front C) (awaited_after q) a (front D) };
+    ghost answers: { (C D : Self) (n : ℕ) (q : Request) (a : Answer) → ready C → Self.Table.steps C n q a D
+        → AnswersAt (system C) (front C) (awaited_after q) a (front D) };
 
     ghost keeps_system: { (C D : Self) (n : ℕ) (q : Request) (a : Answer) → Self.Table.steps C n q a D → system D ≡ system C };
 
@@ -127,7 +128,14 @@ impl<C: SessionCore> Player for SessionPlayer<C> {
 
     ghost may_answer = { λ w s n q a c d f h e. playing.may_answer w.system s q a (C.system c) (C.front c) (C.front d) f.0 h (C.answers c d n q a f.1 e) };
 
-    ghost resumed = { λ w s t n q a replies c d f h e r. let p = playing.resumed w.system s t a replies (C.system c) (C.system d) (C.front c) (C.front d) q f.0 (C.answers c d n q a f.1 e) (C.keeps_system c d n q a e) r in (p.0, (p.1, C.stays_ready c d n q a f.1 e)) };
+    ghost resumed = { λ w s t n q a replies c d f h e r.
+        let p = playing.resumed w.system s t a replies (C.system c) (C.system d) (C.front c) (C.front d) q f.0
+        (C.answers c d n q a f.1 e) (C.keeps_system c d n q a e) r in
+        (p.0, (p.1, C.stays_ready c d n q a f.1 e)) };
 
-    ghost others = { λ w s n q a c d f e. (playing.others w.system s a (C.system c) (C.system d) (C.front c) (C.front d) q f.0 (C.answers c d n q a f.1 e) (C.keeps_system c d n q a e), C.stays_ready c d n q a f.1 e) };
+    ghost others = { λ w s n q a c d f e. (
+      playing.others w.system s a (C.system c) (C.system d) (C.front c) (C.front d) q f.0 (C.answers c d n q a f.1 e)
+          (C.keeps_system c d n q a e),
+      C.stays_ready c d n q a f.1 e,
+    ) };
 }

@@ -1,6 +1,6 @@
 // Sessions.
 
-ghost use Rattle.std.specs.Prelude.{◌≡◌, ◌≢◌, ◌∷◌, ◌++◌, [], ◌≤◌, length, map, drop, true, false, Some, None, IfOk, IfErr, OnOk, OnErr, option_map};
+ghost use Rattle.std.specs.Prelude.{◌≡◌, ◌≢◌, ◌∷◌, ◌++◌, [], ◌≤◌, length, map, drop, true, false, Some, None, IfOk, OnOk, OnErr, option_map};
 ghost use Rattle.pts_lines.specs.declared.line.Line.TheVariants as line;
 ghost use Rattle.pts_parser.specs.declared.fault.ReadFault.{ReadFault};
 ghost use Rattle.pts_parser.specs.FaultText.{read_text};
@@ -16,7 +16,7 @@ ghost use Rattle.pts_session.specs.Plain.{NamesArePlain};
 ghost use Rattle.pts_session.specs.Players.{Hears, IsFree, MayHear};
 ghost use Rattle.pts_session.specs.Tested.{Tested, is_query, is_single};
 ghost use Rattle.pts_session.specs.Replies.{reply_line};
-ghost use Rattle.pts_session.specs.Moves.{is_look, moved_lines, moved_state};
+ghost use Rattle.pts_session.specs.Moves.{is_look, moved_lines, moved_to};
 ghost use Rattle.pts_session.specs.Answers.{first_taken, reply_in};
 ghost use Rattle.pts_ctx.specs.Front.{bare_front};
 ghost use Rattle.pts_ctx.specs.Seen.{IsPrefix};
@@ -395,7 +395,7 @@ impl Session {
         requires longer { IsPrefix self.old.state.base.entries front.entries }
         requires legal { Legal self.old.system (bare_front front.entries) }
         ensures moved { looked ≡ true → IfOk result (λ out. out.items ≡ lines.items ++ moved_lines (first_taken front.entries self.old.state.draft)) }
-        ensures base { looked ≡ true → OnOk result (self.new.state ≡ moved_state self.old.state (labelled front) (first_taken front.entries self.old.state.draft)) }
+        ensures base { looked ≡ true → OnOk result (self.new.state ≡ moved_to self.old.state (labelled front)) }
         ensures begun { looked ≡ false → IfOk result (λ out. out.items ≡ lines.items) }
         ensures empty { looked ≡ false → OnOk result (self.new.state ≡ record self.old.state { base = labelled front; draft = [] }) }
         ensures system { self.new.system ≡ self.old.system }
@@ -418,7 +418,7 @@ impl Session {
         requires longer { IsPrefix self.old.state.base.entries front.entries }
         requires legal { Legal self.old.system (bare_front front.entries) }
         ensures lines { IfOk result (λ out. out.items ≡ lines.items ++ moved_lines (first_taken front.entries self.old.state.draft)) }
-        ensures state { OnOk result (self.new.state ≡ moved_state self.old.state (labelled front) (first_taken front.entries self.old.state.draft)) }
+        ensures state { OnOk result (self.new.state ≡ moved_to self.old.state (labelled front)) }
         ensures system { self.new.system ≡ self.old.system }
         ensures awaits { self.new.awaited ≡ self.old.awaited }
     {

@@ -15,14 +15,16 @@ pub struct CoreTable {
 
 impl Table<Request, Answer> for CoreTable {
     ghost use Rattle.std.proofs.Common.{refl, ◌≡◌, ◌∙◌};
+    ghost use Rattle.pts_ctx.specs.Seen.{IsPrefix};
     ghost use Rattle.pts_core.specs.Histories.{replay};
+    ghost use Rattle.pts_session.specs.Playing.{prefix_of_itself, prefix_on};
     ghost use Rattle.pts_session.specs.Ports.{CoreSteps, MayAsk};
 
     ghost may = { λ t q. MayAsk t.core.system (replay t.core.history) q };
 
     ghost steps = { λ t n q a u. CoreSteps t.core n q a u.core };
 
-    ghost keeps = { λ t u. u.core.system ≡ t.core.system };
+    ghost keeps = { λ t u. (u.core.system ≡ t.core.system) × IsPrefix t.core.history u.core.history };
 
     fn step(
         &mut self,
@@ -37,9 +39,9 @@ impl Table<Request, Answer> for CoreTable {
         }
     }
 
-    ghost keeps_itself = { λ t. refl };
+    ghost keeps_itself = { λ t. (refl, prefix_of_itself t.core.history) };
 
-    ghost keeps_on = { λ t u v e f. f ∙ e };
+    ghost keeps_on = { λ t u v e f. (f.0 ∙ e.0, prefix_on t.core.history u.core.history v.core.history e.1 f.1) };
 }
 
 impl SessionCore for CoreTable {

@@ -18,7 +18,8 @@ impl Session {
     ///
     /// # Errors
     ///
-    /// The history is full, as the port says, or out of memory. Then nothing is said of the session.
+    /// The history is full, as the port says, or out of memory: before the line asks, or for its answer, or for its replies. Then
+    /// nothing is said of the session, and its answer is lost if it had one.
     pub fn run_line<P: Port>(
         &mut self,
         alloc: Global,
@@ -29,8 +30,10 @@ impl Session {
         requires free { IsFree world.now.system self.old }
         requires fits { FitsTo world.now.system self.old (P.system port.old) (replay (P.history port.old)) }
         requires ready { P.ready port.old }
-        ensures ran { IfOk result (λ lines. RanLine (P.session port.old) (P.may_come port.old) world.now.system (P.history port.old) self.old.state text.now (P.history port.new) lines.items self.new.state) }
-        ensures refused { IfErr result (λ e. DidNotRun (P.session port.old) (P.may_come port.old) (P.history port.old) (P.history port.new) e) }
+        ensures ran { IfOk result (λ lines. RanLine (P.session port.old) (P.may_come port.old) world.now.system
+            (P.history port.old) self.old.state text.now (P.history port.new) lines.items self.new.state) }
+        ensures refused { IfErr result (λ e. DidNotRun (P.session port.old) (P.may_come port.old) world.now.system
+            (P.history port.old) self.old.state text.now (P.history port.new) e) }
         ensures free { OnOk result (IsFree world.now.system self.new) }
         ensures fits { OnOk result (FitsTo world.now.system self.new (P.system port.new) (replay (P.history port.new))) }
         ensures ready { P.ready port.new }

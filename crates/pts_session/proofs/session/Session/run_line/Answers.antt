@@ -56,3 +56,28 @@ returns-in_ok-resume-in-Ask-clause-fits g c =
     c.in_ok-answer-in-Ask.answer (replay (g.P.Port.history c.ask_port.new.port)) c.in_ok-answer-in-Ask.ensures.answers
     c.resume.new.self c.in_ok-resume-in-Ask.field-0.items c.in_ok-resume-in-Ask.ensures.hears
     (g.P.Port.system c.ask_port.new.port) c.ask_port.ensures.system).1
+
+pub returns-in_err-lines-clause-refused : goal.returns-in_err-lines-clause-refused
+returns-in_err-lines-clause-refused g c =
+    ran.nothing_asked c.args.world.now.system c.args.self.now c.run_local.new.self c.args.text.now (g.P.Port.session c.args.port.now) (g.P.Port.may_come c.args.port.now) (g.P.Port.history c.args.port.now) (g.P.Port.history c.args.port.now)
+    c.from_residual.result c.from_residual.ensures.1 refl
+
+pub returns-in_err-answer-in-Ask-clause-refused : goal.returns-in_err-answer-in-Ask-clause-refused
+returns-in_err-answer-in-Ask-clause-refused g c =
+    let S = c.args.world.now.system in
+    let s = c.args.self.now in
+    let t = c.run_local.new.self in
+    ran.not_answered S s t c.args.text.now (g.P.Port.session c.args.port.now) (g.P.Port.may_come c.args.port.now) (g.P.Port.history c.args.port.now) (g.P.Port.history c.ask_port.new.port)
+    c.from_residual-in_err-answer-in-Ask.result c.in-Ask.request
+    (subst (λ x. ComesTo S s.state c.args.text.now (came_to x t.state)) c.in-Ask.is c.in_ok-lines.ensures.line)
+    c.in_err-answer-in-Ask.field-0.0 c.from_residual-in_err-answer-in-Ask.ensures.1 c.in_err-answer-in-Ask.ensures.refused
+
+pub returns-in_err-resume-in-Ask-clause-refused : goal.returns-in_err-resume-in-Ask-clause-refused
+returns-in_err-resume-in-Ask-clause-refused g c =
+    let S = c.args.world.now.system in
+    let s = c.args.self.now in
+    let t = c.run_local.new.self in
+    ran.replies_lost S s t c.args.text.now (g.P.Port.session c.args.port.now) (g.P.Port.may_come c.args.port.now) (g.P.Port.history c.args.port.now) (g.P.Port.history c.ask_port.new.port)
+    c.from_residual-in_err-resume-in-Ask.result c.in-Ask.request
+    (subst (λ x. ComesTo S s.state c.args.text.now (came_to x t.state)) c.in-Ask.is c.in_ok-lines.ensures.line)
+    c.in_ok-answer-in-Ask.answer c.from_residual-in_err-resume-in-Ask.ensures.1 c.in_ok-answer-in-Ask.ensures.answered
