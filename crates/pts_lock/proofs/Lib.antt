@@ -1,0 +1,5 @@
+pub mod Pairs
+pub mod Turns
+pub mod Moving
+pub mod Ends
+pub mod Gathering

@@ -1,0 +1,4 @@
+pub mod Loans
+pub mod Marks
+pub mod Resting
+pub mod Asking

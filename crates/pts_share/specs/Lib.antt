@@ -1,0 +1,4 @@
+pub mod Marks
+pub mod Passes
+pub mod Sharing
+pub mod Loans
