@@ -1,0 +1,17 @@
+pub mod Within
+pub mod Kept
+pub mod Parts
+pub mod Backward
+pub mod Turn
+pub mod Size
+pub mod Filling
+pub mod Views
+pub mod Conclusion
+pub mod Application
+pub mod LinkLoops
+pub mod Growth
+pub mod OneTerm
+pub mod Soundness
+pub mod Undo
+pub mod Beginning
+pub mod Fitting

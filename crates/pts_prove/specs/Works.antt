@@ -1,0 +1,111 @@
+-- What a command works on, before and after a step, and what a step answers.
+use Rattle.std.specs.Prelude.{◌≡◌, ◌<◌, ℕ, List, length, Result}
+use Rattle.pts_terms.specs.Tree.{Named, sort as sort_term}
+use Rattle.pts_ctx.specs.Front.{bare_front}
+use Rattle.pts_record.specs.Table.{named_at}
+use Rattle.pts_rules.specs.Meter.{left}
+use Rattle.pts_rules.specs.Valid.{IsValid}
+use Rattle.pts_infer_cost.specs.Typing.{Outcome, Infers, Sorts, Fits, inference_nesting}
+use Rattle.pts_grow.specs.declared.compared.Compared.{Compared}
+use Rattle.pts_grow.specs.declared.judged.Judged.{Judged}
+use Rattle.pts_grow.specs.Keeps.{Compares, Keeps}
+use Rattle.pts_grow.specs.Judges.{IsTypedContext, Judges}
+use Rattle.pts_reduce.specs.Given.{Later}
+use Rattle.pts_reduce.specs.Chain.{entries_of}
+use Rattle.pts_infer.specs.declared.part.Part.{Part as AnswerPart}
+use Rattle.pts_goals.specs.declared.step.Goal.{Goal}
+use Rattle.pts_goals.specs.declared.step.Step.{Step}
+use Rattle.pts_goals.specs.Steps.{Fits as StepFits}
+use Rattle.pts_prove_cost.specs.Combining.{Turned}
+use Rattle.pts_prove_cost.specs.Refinement.{Sequent}
+use Rattle.pts_prove_cost.specs.Commands.{Part, Refusal, flawed, misfit_in, Agrees, Command}
+use Rattle.pts_prove.specs.declared.fault.ProveFault.{ProveFault}
+use Rattle.pts_prove.specs.declared.work.Work.{Work}
+use Rattle.pts_prove.specs.declared.work.Place.{Place}
+use Rattle.pts_prove.specs.declared.work.Sorted.{Sorted}
+use Rattle.pts_prove.specs.Answered.{Answers, part_seen}
+
+-- The second state of the work comes after the first one.
+pub record Grown (a b : Work) : Type 0 where
+  pub system : b.system ≡ a.system
+  pub front : b.front ≡ a.front
+  pub names : b.names ≡ a.names
+  pub record_name : b.proof.ghost_name ≡ a.proof.ghost_name
+  pub meter_name : b.meter.ghost_name ≡ a.meter.ghost_name
+  pub keeps : Keeps a.proof.now b.proof.now
+  pub valid : IsValid a.system.now (bare_front a.front.now.entries) a.proof.now → IsValid a.system.now (bare_front a.front.now.entries) b.proof.now
+  pub later : Later a.meter.now b.meter.now
+
+-- The number is that of a context of the record, all of whose entries are known.
+pub record IsPlace (w : Work) (c : ℕ) : Type 0 where
+  pub there : c < length w.proof.now.nodes
+  pub typed : IsTypedContext w.proof.now c
+
+-- The number is that of a term of the record.
+pub record HasTerm (w : Work) (t : ℕ) : Type 0 where
+  pub there : t < length w.proof.now.shapes
+
+-- It is that of this term.
+pub record IsNumberOf (w : Work) (t : ℕ) (T : Named) : Type 0 where
+  pub term : HasTerm w t
+  pub is : named_at w.proof.now.shapes t ≡ T
+
+-- The goal has a context and a statement of the record.
+pub record IsAsked (w : Work) (g : Place) : Type 0 where
+  pub place : IsPlace w g.ctx
+  pub statement : HasTerm w g.statement
+
+-- The term with the number t is judged in the context with the number c.
+pub record IsJudged (w : Work) (c t : ℕ) (j : Judged) : Type 0 where
+  pub place : IsPlace w c
+  pub subject : j.subject ≡ t
+  pub claim : HasTerm w j.claim
+  pub judges : Judges w.proof.now c j
+
+-- It has a sort as its type, or the wanted type.
+pub record IsSorted (w : Work) (c t : ℕ) (s : Sorted) : Type 0 where
+  pub judged : IsJudged w c t s.judged
+  pub sort : named_at w.proof.now.shapes s.judged.claim ≡ sort_term s.sort.0
+
+pub record IsFitted (w : Work) (c t want : ℕ) (j : Judged) : Type 0 where
+  pub judged : IsJudged w c t j
+  pub claim : j.claim ≡ want
+
+-- The first term is compared with the second one.
+pub record IsCompared (w : Work) (c t u : ℕ) (o : Compared) : Type 0 where
+  pub place : IsPlace w c
+  pub left : o.left ≡ t
+  pub right : o.right ≡ u
+  pub compares : Compares w.proof.now c o
+
+-- The step fits each goal with that context and that statement.
+pub record FitsAt (w : Work) (g : Place) (s : Step) : Type 0 where
+  pub fits : (h : Goal) → h.ctx ≡ g.ctx → h.statement ≡ g.statement → StepFits w.proof.now h s
+
+-- The term with that number, and the type of a judgement.
+abbrev pub term_in : Work → ℕ → Named
+term_in w t = named_at w.proof.now.shapes t
+
+abbrev pub claim_in : Work → Judged → Named
+claim_in w j = named_at w.proof.now.shapes j.claim
+
+-- What the goal says.
+abbrev pub sequent_at : Work → Place → Sequent
+sequent_at w g = record { names = w.names.now; entries = entries_of w.proof.now g.ctx; statement = named_at w.proof.now.shapes g.statement }
+
+-- The work that a step stands for.
+abbrev pub inferring : Work → (c : ℕ) → AnswerPart → (t : ℕ) → Outcome Refusal Named → ℕ → Type 0
+inferring w c p t = Turned (flawed (part_seen p)) (Infers w.system.now w.front.now.entries inference_nesting (entries_of w.proof.now c) (term_in w t))
+
+abbrev pub sorting : Work → (c : ℕ) → AnswerPart → (t : ℕ) → Outcome Refusal ℕ → ℕ → Type 0
+sorting w c p t = Turned (flawed (part_seen p)) (Sorts w.system.now w.front.now.entries inference_nesting (entries_of w.proof.now c) (term_in w t))
+
+abbrev pub fitting : Work → (c : ℕ) → AnswerPart → (t want : ℕ) → Outcome Refusal (Unit {0}) → ℕ → Type 0
+fitting w c p t want = Turned (misfit_in (part_seen p)) (Fits w.system.now w.front.now.entries inference_nesting (entries_of w.proof.now c) (term_in w t) (term_in w want))
+
+abbrev pub agreeing : Work → Place → (t : ℕ) → Command → ℕ → Type 0
+agreeing w g t = Agrees w.front.now.entries (entries_of w.proof.now g.ctx) (term_in w t) (term_in w g.statement)
+
+-- From the first state to the second one the work came to what the answer stands for, or stopped with its fault.
+pub record Came {X A : Type 0} (a b : Work) (value : X → A) (r : Result X ProveFault) (costs : Outcome Refusal A → ℕ → Type 0) : Type 0 where
+  pub answers : Answers b.names.now value costs r (left a.meter.now) (left b.meter.now)

@@ -1,0 +1,67 @@
+// The public calls: each command refines the goal of an open proof that comes first.
+
+ghost use Rattle.std.specs.Prelude.{◌≡◌, false};
+ghost use Rattle.pts_terms.specs.Seen.{named};
+ghost use Rattle.pts_ctx.specs.Front.{bare_front};
+ghost use Rattle.pts_rules.specs.Meter.{left};
+ghost use Rattle.pts_rules.specs.Valid.{IsValid};
+ghost use Rattle.pts_grow.specs.Keeps.{Keeps};
+ghost use Rattle.pts_reduce.specs.Given.{Later};
+ghost use Rattle.pts_prove_cost.specs.Commands.{converts, exacts};
+ghost use Rattle.pts_prove.specs.Refining.{Proves};
+
+use crate::command::Command;
+use crate::fault::ProveFault;
+use crate::refining::refine;
+use pts_ctx::{Context, System};
+use pts_goals::Proof;
+use pts_rules::Meter;
+use pts_terms::Term;
+
+/// Puts a term for the goal: it is inferred, and fitted to the goal. No goal takes its place.
+///
+/// # Errors
+///
+/// `NoGoal`. `Deep` where the term is not within limits, at no cost. `Flaw` of the part `Whole`. `Spent`, `Deep`: as those
+/// of inference and of fits. `Deep`, last of all, where the whole term with its holes is not within limits. `Memory`.
+pub fn exact(
+    system: &System,
+    front: &Context,
+    proof: &mut Proof,
+    term: &Term,
+    meter: &mut Meter,
+) -> Result<(), ProveFault>
+    requires here { proof.old.is_lent ≡ false }
+    ensures proves { Proves proof.old (λ g. exacts system.now front.now.entries g (named term.now)) result proof.new (left meter.old) (left meter.new) }
+    ensures here { proof.new.is_lent ≡ false }
+    ensures keeps { Keeps proof.old.scratch proof.new.scratch }
+    ensures valid { IsValid system.now (bare_front front.now.entries) proof.old.scratch → IsValid system.now (bare_front front.now.entries) proof.new.scratch }
+    ensures later { Later meter.old meter.new }
+{
+    refine(system, front, proof, Command::Exact(term), meter)
+}
+
+/// Puts another statement in the place of the goal: it has a sort, and is convertible with the goal.
+///
+/// # Errors
+///
+/// `NoGoal`. `Deep` where the statement is not within limits, at no cost. `Flaw` of the part `Ty` where the statement is
+/// flawed, and of the part `Goal` where it is not convertible with the goal. `Spent`, `Deep`: as those of inference with the
+/// sort test and of the conversion test. `Deep`, last of all, where the whole term with its holes is not within limits.
+/// `Memory`.
+pub fn convert_goal(
+    system: &System,
+    front: &Context,
+    proof: &mut Proof,
+    ty: &Term,
+    meter: &mut Meter,
+) -> Result<(), ProveFault>
+    requires here { proof.old.is_lent ≡ false }
+    ensures proves { Proves proof.old (λ g. converts system.now front.now.entries g (named ty.now)) result proof.new (left meter.old) (left meter.new) }
+    ensures here { proof.new.is_lent ≡ false }
+    ensures keeps { Keeps proof.old.scratch proof.new.scratch }
+    ensures valid { IsValid system.now (bare_front front.now.entries) proof.old.scratch → IsValid system.now (bare_front front.now.entries) proof.new.scratch }
+    ensures later { Later meter.old meter.new }
+{
+    refine(system, front, proof, Command::Convert(ty), meter)
+}

@@ -1,0 +1,19 @@
+//! Proof commands: each refines the goal of an open proof that comes first.
+//! Each gives exactly the next open proof of its definition, at its cost, or the refusal, after which goals and steps are as
+//! before.
+//! Stands on open proofs, on inference, and on the definition of the commands at their cost.
+#![tactic(auto)]
+
+mod by_statement;
+mod by_term;
+mod calls;
+mod command;
+mod copies;
+mod fault;
+mod judging;
+mod refining;
+mod taking;
+mod work;
+
+pub use calls::{convert_goal, exact};
+pub use fault::ProveFault;

@@ -1,0 +1,32 @@
+// What a command works on: a record and a meter, and the goal.
+
+use pts_ctx::{Context, System};
+use pts_grow::Judged;
+use pts_names::Name;
+use pts_record::Record;
+use pts_rules::Meter;
+use pts_terms::Sort;
+
+/// A record and a meter, over a system and a front, with the names of the goal's hypotheses, the outermost first.
+#[derive(Drop)]
+pub(crate) struct Work<'a> {
+    pub system: &'a System,
+    pub front: &'a Context,
+    pub names: &'a [Name],
+    pub proof: &'a mut Record,
+    pub meter: &'a mut Meter,
+}
+
+/// A goal: the number of its context, and that of its statement.
+#[derive(Clone, Copy, Debug, PartialEq, Eq)]
+pub(crate) struct Place {
+    pub ctx: usize,
+    pub statement: usize,
+}
+
+/// A judgement whose claim is that sort.
+#[derive(Clone, Copy, Debug, PartialEq, Eq)]
+pub(crate) struct Sorted {
+    pub judged: Judged,
+    pub sort: Sort,
+}

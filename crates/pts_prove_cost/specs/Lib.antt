@@ -1,0 +1,4 @@
+pub mod Combining
+pub mod Refinement
+pub mod Commands
+pub mod Laws
