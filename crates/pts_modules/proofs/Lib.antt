@@ -1,0 +1,4 @@
+mod Once
+mod Stack
+mod Steps
+mod Walk

@@ -1,0 +1,4 @@
+pub mod Shelves
+pub mod Orders
+pub mod Stacks
+pub mod Laws
