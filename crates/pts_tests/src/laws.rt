@@ -1,4 +1,5 @@
-use pts_rules::Meter;
+use pts_rules::{Meter, Why};
+use pts_samples::prints;
 
 #[test]
 fn the_laws_can_be_called() {
@@ -48,4 +49,24 @@ fn a_meter_pays_what_is_left_and_no_more(rt: HostRuntime) {
     assert!(rt; pays(&mut meter, 2, 2));
     assert!(rt; !pays(&mut meter, 2, 2));
     assert!(rt; meter.spent() == 3 && meter.limit() == 3);
+}
+
+#[test]
+fn the_conditions_that_nodes_break_are_printed(rt: HostRuntime) {
+    let texts = [
+        (Why::Kind(0), "Kind 0"),
+        (Why::Place(1), "Place 1"),
+        (Why::Subject, "Subject"),
+        (Why::Claim, "Claim"),
+        (Why::Premise(2), "Premise 2"),
+        (Why::SortOf(3), "SortOf 3"),
+        (Why::NoAxiom, "NoAxiom"),
+        (Why::NoRule, "NoRule"),
+        (Why::NoEntry, "NoEntry"),
+        (Why::NoStep, "NoStep"),
+        (Why::Conclusion, "Conclusion"),
+    ];
+    for (why, text) in texts {
+        assert!(rt; prints(rt.alloc(), &why, text), "{text}");
+    }
 }

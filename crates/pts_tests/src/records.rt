@@ -1,31 +1,8 @@
 use pts_record::{
     Extent, Form, FormKind, LocalEntry, Node, Record, RecordFault, Shape, Sort, Term, Terms,
 };
+use pts_samples::{add, fill, node};
 use std::alloc::AllocError;
-
-fn add(record: &mut Record, shape: Shape) -> Result<usize, RecordFault> {
-    record.add_term(shape)
-}
-
-fn add_node(record: &mut Record, form: Form, claim: usize) -> Result<usize, RecordFault> {
-    record.add_node(Node {
-        form,
-        ctx: 0,
-        subject: 0,
-        claim,
-        first: 0,
-        second: 0,
-        third: 0,
-    })
-}
-
-/// Adds the two sorts, the empty context, and that the first sort has the term `claim`, which is 0 or 1, as its type.
-pub fn fill(record: &mut Record, claim: usize) -> Result<usize, RecordFault> {
-    add(record, Shape::Sort(Sort(0)))?;
-    add(record, Shape::Sort(Sort(1)))?;
-    add_node(record, Form::Empty, 0)?;
-    add_node(record, Form::SortAt, claim)
-}
 
 // The same with the terms `Var(0)`, `Var(1)` and the application of the first to itself.
 fn fill_more(record: &mut Record) -> Result<usize, RecordFault> {
@@ -88,15 +65,7 @@ fn fill_contexts(record: &mut Record) -> Result<usize, RecordFault> {
 }
 
 fn add_context(record: &mut Record, form: Form, first: usize) -> Result<usize, RecordFault> {
-    record.add_node(Node {
-        form,
-        ctx: 0,
-        subject: 0,
-        claim: 0,
-        first,
-        second: 0,
-        third: 0,
-    })
+    record.add_node(node(form, 0, first))
 }
 
 fn tells_its_judgement(record: &Record) -> bool {
@@ -158,5 +127,31 @@ fn a_term_is_taken_in_and_given_back(rt: HostRuntime) {
     assert!(rt; matches!(record.add_tree(&Term::Var(3)), Ok(0)));
     assert!(rt; is_tree(&record, 0, &tree_at(&record, 0)));
     assert!(rt; has_one_term(&record.copy()));
+    assert!(rt; Record::new(record.alloc()).terms() == 0);
     assert!(rt; matches!(Shape::Var(7).copy(), Ok(Shape::Var(7))));
+}
+
+// Keeps hints to the second term and to the first node.
+fn note(record: &mut Record) {
+    if record.terms() == 2 && record.nodes() == 2 {
+        record.note_term(1);
+        record.note_node(0);
+    }
+}
+
+fn knows(record: &Record, term: Option<usize>, empty: Option<usize>) -> bool {
+    record.known_term(&Shape::Sort(Sort(1))) == term
+        && record.known_term(&Shape::Sort(Sort(0))).is_none()
+        && record.known_node(&node(Form::Empty, 0, 0)) == empty
+}
+
+#[test]
+fn lines_are_known_by_their_hints(rt: HostRuntime) {
+    let mut record = Record::new(rt.alloc());
+    assert!(rt; fill(&mut record, 1).is_ok());
+    assert!(rt; knows(&record, None, None));
+    note(&mut record);
+    assert!(rt; knows(&record, Some(1), Some(0)));
+    record.trim();
+    assert!(rt; knows(&record, None, None));
 }

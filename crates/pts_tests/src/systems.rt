@@ -1,45 +1,6 @@
 use pts_ctx::{Sort, SortName, System, SystemFault, SystemPart};
+use pts_samples::{add_axiom, one_axiom, prints, simple, spelled, stars_and_boxes};
 use std::alloc::{AllocError, Global};
-
-fn spelled(alloc: Global, text: &str) -> Option<SortName> {
-    SortName::read(alloc, text).ok()
-}
-
-fn stars_and_boxes(alloc: Global) -> Option<Vec<SortName>> {
-    let mut sorts = Vec::new(alloc);
-    sorts.push(spelled(alloc, "*")?).ok()?;
-    sorts.push(spelled(alloc, "#")?).ok()?;
-    Some(sorts)
-}
-
-fn add_axiom(alloc: Global, axioms: &mut Vec<(SortName, SortName)>, right: &str) -> Option<()> {
-    let left = spelled(alloc, "*")?;
-    let right = spelled(alloc, right)?;
-    axioms.push((left, right)).ok()
-}
-
-fn one_axiom(alloc: Global) -> Option<Vec<(SortName, SortName)>> {
-    let mut axioms = Vec::new(alloc);
-    add_axiom(alloc, &mut axioms, "#")?;
-    Some(axioms)
-}
-
-fn one_rule(alloc: Global) -> Option<Vec<(SortName, SortName, SortName)>> {
-    let first = spelled(alloc, "*")?;
-    let second = spelled(alloc, "*")?;
-    let third = spelled(alloc, "*")?;
-    let mut rules = Vec::new(alloc);
-    rules.push((first, second, third)).ok()?;
-    Some(rules)
-}
-
-/// The simply typed calculus.
-pub fn simple(alloc: Global) -> Option<System> {
-    let sorts = stars_and_boxes(alloc)?;
-    let axioms = one_axiom(alloc)?;
-    let rules = one_rule(alloc)?;
-    System::new(alloc, sorts, axioms, rules).ok()
-}
 
 fn has_its_axiom_and_its_rule(system: &System) -> bool {
     system.is_declared();
@@ -86,4 +47,46 @@ fn the_first_fault_of_a_system_is_named(rt: HostRuntime) {
     assert!(rt; refusal(rt.alloc(), "*") == Some(SystemFault::AxiomClash(0, 1)));
     let unknown = SystemFault::UnknownSort(SystemPart::Axiom, 1);
     assert!(rt; refusal(rt.alloc(), "'T") == Some(unknown));
+}
+
+// The first sort, this many times.
+fn stars(alloc: Global, count: usize) -> Option<Vec<SortName>> {
+    let mut sorts = Vec::new(alloc);
+    for _ in 0..count {
+        sorts.push(spelled(alloc, "*")?).ok()?;
+    }
+    Some(sorts)
+}
+
+fn refused_stars(alloc: Global, count: usize) -> Option<SystemFault> {
+    let sorts = stars(alloc, count)?;
+    System::new(alloc, sorts, Vec::new(alloc), Vec::new(alloc)).err()
+}
+
+#[test]
+fn a_system_has_at_most_64_sorts(rt: HostRuntime) {
+    assert!(rt; refused_stars(rt.alloc(), 64) == Some(SystemFault::DuplicateSort(0, 1)));
+    assert!(rt; refused_stars(rt.alloc(), 65) == Some(SystemFault::TooManySorts(65)));
+}
+
+#[test]
+fn faults_of_systems_are_printed(rt: HostRuntime) {
+    let texts = [
+        (SystemFault::TooManySorts(65), "TooManySorts 65"),
+        (SystemFault::DuplicateSort(0, 2), "DuplicateSort 0 2"),
+        (
+            SystemFault::UnknownSort(SystemPart::Axiom, 1),
+            "UnknownSort Axiom 1",
+        ),
+        (
+            SystemFault::UnknownSort(SystemPart::Rule, 3),
+            "UnknownSort Rule 3",
+        ),
+        (SystemFault::AxiomClash(4, 5), "AxiomClash 4 5"),
+        (SystemFault::RuleClash(6, 17), "RuleClash 6 17"),
+        (SystemFault::Memory, "Memory"),
+    ];
+    for (fault, text) in texts {
+        assert!(rt; prints(rt.alloc(), &fault, text), "{text}");
+    }
 }

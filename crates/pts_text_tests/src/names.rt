@@ -46,6 +46,32 @@ fn a_text_that_is_no_name_is_refused_at_its_first_fault(rt: HostRuntime) {
     }
 }
 
+/// 63 letters.
+const LETTERS: &str = "aaaaaaaaaaaaaaaaaaaaaaaaaaaaaaaaaaaaaaaaaaaaaaaaaaaaaaaaaaaaaaa";
+
+fn is_named(alloc: Global, text: &str, plain: bool, short: bool) -> bool {
+    match Name::read(alloc, text) {
+        Ok(name) => name.is_plain() == plain && name.is_short() == short,
+        Err(_) => false,
+    }
+}
+
+#[test]
+fn a_short_name_is_one_identifier_of_at_most_63_bytes(rt: HostRuntime) {
+    assert!(rt; is_named(rt.alloc(), LETTERS, true, true));
+    assert!(rt;
+        is_named(
+            rt.alloc(),
+            "aaaaaaaaaaaaaaaaaaaaaaaaaaaaaaaaaaaaaaaaaaaaaaaaaaaaaaaaaaaaaaaa",
+            true,
+            false
+        )
+    );
+    assert!(rt; is_named(rt.alloc(), "_a", true, true));
+    assert!(rt; is_named(rt.alloc(), "_", false, false));
+    assert!(rt; is_named(rt.alloc(), "a.b", false, false));
+}
+
 fn spells(alloc: Global, text: &str) -> Result<bool, SortNameFault> {
     let spelling = SortName::read(alloc, text)?;
     let copy = spelling.copy()?;

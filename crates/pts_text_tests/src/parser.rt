@@ -1,8 +1,9 @@
 ghost use Rattle.std.specs.Prelude.{◌≡◌, Option, List, ℕ, IfOk};
 
 use pts_ctx::System;
-use pts_names::Name;
+use pts_names::{Name, SortName};
 use pts_parser::{Kind, ReadFault, Scope, read_term, read_tree, resolve};
+use pts_samples::prints;
 use pts_terms::Term;
 use std::alloc::{AllocError, Global};
 use std::test::Fail;
@@ -102,5 +103,25 @@ fn a_term_of_the_greatest_depth_is_read(rt: HostRuntime) -> Result<(), Fail> {
     text.push_str("*")?;
     let deep = refused(alloc, text.as_str(), &system, &scope);
     assert!(rt; matches!(&deep, Some(ReadFault::UnknownSort(_, _))));
+    Ok(())
+}
+
+#[test]
+fn refusals_of_texts_are_printed(rt: HostRuntime) -> Result<(), Fail> {
+    let alloc = rt.alloc();
+    let name = Name::read(alloc, "é.x")?;
+    let sort = SortName::read(alloc, "'s")?;
+    let texts = [
+        (ReadFault::BadChar(0), "BadChar 0"),
+        (ReadFault::LongName(10), "LongName 10"),
+        (ReadFault::Expected(2, Kind::Close), "Expected 2 Close"),
+        (ReadFault::TooDeep(65536), "TooDeep 65536"),
+        (ReadFault::UnknownName(3, name), "UnknownName 3 é.x"),
+        (ReadFault::UnknownSort(4, sort), "UnknownSort 4 's"),
+        (ReadFault::Memory, "Memory"),
+    ];
+    for (fault, text) in texts {
+        assert!(rt; prints(alloc, &fault, text), "{text}");
+    }
     Ok(())
 }

@@ -1,7 +1,8 @@
 use pts_lines::{
-    Kind, Line, ReadFault, Tree, line_refusals_are_determined, lines_are_unambiguous, read_line,
+    Declaring, DeclaringLine, Kind, Line, ReadFault, Tree, declaring_word,
+    line_refusals_are_determined, lines_are_unambiguous, read_declaration, read_line,
 };
-use std::alloc::Global;
+use std::alloc::{AllocError, Global};
 
 fn refused(alloc: Global, text: &str) -> Option<ReadFault> {
     read_line(alloc, text).err()
@@ -76,6 +77,70 @@ fn a_refusal_names_the_first_token_that_does_not_fit(rt: HostRuntime) {
         let found = refused(rt.alloc(), text);
         assert!(rt;
             matches!(&found, Some(ReadFault::Expected(at, wanted)) if *at == place && *wanted == kind)
+        );
+    }
+}
+
+fn is_assumption(read: &Result<DeclaringLine, ReadFault>) -> bool {
+    match read {
+        Ok(DeclaringLine::Assume(name, Tree::Named(place, _))) => {
+            name.text() == "a" && *place == 11
+        }
+        _ => false,
+    }
+}
+
+fn is_typed_definition(read: &Result<DeclaringLine, ReadFault>) -> bool {
+    match read {
+        Ok(DeclaringLine::Define(_, Some(ty), body)) => {
+            matches!(ty, Tree::Sort(_, _)) && matches!(body, Tree::Named(_, _))
+        }
+        _ => false,
+    }
+}
+
+fn is_parameter(read: &Result<DeclaringLine, ReadFault>) -> bool {
+    matches!(read, Ok(DeclaringLine::Parameter(_, _)))
+}
+
+fn is_no_declaration(read: &Result<DeclaringLine, ReadFault>) -> bool {
+    matches!(read, Err(ReadFault::Expected(0, Kind::Command)))
+}
+
+#[test]
+fn declarations_are_read(rt: HostRuntime) {
+    let alloc = rt.alloc();
+    assert!(rt; is_assumption(&read_declaration(alloc, "assume a : A")));
+    assert!(rt; is_typed_definition(&read_declaration(alloc, "define a : * := A")));
+}
+
+#[test]
+fn parameters_are_declarations_and_commands_are_not(rt: HostRuntime) {
+    let alloc = rt.alloc();
+    assert!(rt; is_parameter(&read_declaration(alloc, "parameter a : *")));
+    assert!(rt; is_no_declaration(&read_declaration(alloc, "infer a")));
+}
+
+fn declares(word: &Result<Option<Declaring>, AllocError>, wanted: Option<Declaring>) -> bool {
+    match word {
+        Ok(word) => *word == wanted,
+        Err(_) => false,
+    }
+}
+
+#[test]
+fn the_first_word_says_what_a_line_declares(rt: HostRuntime) {
+    let words = [
+        ("parameter", Some(Declaring::Parameter)),
+        ("assume $", Some(Declaring::Assume)),
+        ("define := )", Some(Declaring::Define)),
+        ("infer a", None),
+        ("$", None),
+    ];
+    for (text, wanted) in words {
+        assert!(rt;
+            declares(&declaring_word(rt.alloc(), text), wanted),
+            "{text}"
         );
     }
 }

@@ -1,6 +1,7 @@
 use pts_ctx::Sort;
-use pts_spec::{SpecFault, SystemFault, SystemPart, read_system};
-use std::alloc::Global;
+use pts_samples::prints;
+use pts_spec::{SpecFault, SystemFault, SystemPart, Text, read_system};
+use std::alloc::{AllocError, Global};
 
 /// The calculus of constructions, with a sort more, an axiom twice, and a rule of three spellings.
 const CONSTRUCTIONS: &str = "# comment
@@ -116,4 +117,32 @@ fn the_first_fault_of_the_lists_is_named(rt: HostRuntime) {
     );
     let axioms = "sorts = ['*', '#']\naxioms = [['*', '*'], ['*', '#']]\nrules = []";
     assert!(rt; is_faulty(rt.alloc(), axioms, SystemFault::AxiomClash(0, 1)));
+}
+
+fn shape_of(alloc: Global, key: &str) -> Result<SpecFault, AllocError> {
+    let key = String::from_str(alloc, key)?;
+    Ok(SpecFault::Shape(Text::of(key)))
+}
+
+fn shape_is_printed(alloc: Global, key: &str, text: &str) -> bool {
+    match shape_of(alloc, key) {
+        Ok(fault) => prints(alloc, &fault, text),
+        Err(_) => false,
+    }
+}
+
+#[test]
+fn refusals_of_specifications_are_printed(rt: HostRuntime) {
+    assert!(rt; shape_is_printed(rt.alloc(), "axioms", "Shape axioms"));
+    let texts = [
+        (SpecFault::NotToml, "NotToml"),
+        (
+            SpecFault::System(SystemFault::RuleClash(0, 1)),
+            "RuleClash 0 1",
+        ),
+        (SpecFault::Memory, "Memory"),
+    ];
+    for (fault, text) in texts {
+        assert!(rt; prints(rt.alloc(), &fault, text), "{text}");
+    }
 }

@@ -1,5 +1,7 @@
 use pts_certificate::{Certificate, CertificateFault, read_certificate};
 use pts_check::{Form, Record, Term};
+use pts_ctx::SystemFault;
+use pts_samples::prints;
 use std::alloc::Global;
 
 /// The type `A` and the identity on it.
@@ -178,4 +180,20 @@ fn a_number_that_leads_nowhere_is_refused(rt: HostRuntime) {
     let text = "yarrow-certificate 1\nsorts *\nassume a\nt var 01\n";
     assert!(rt; has_bad_number(rt.alloc(), text));
     assert!(rt; is_no_system(rt.alloc(), "yarrow-certificate 1\nsorts * *\nend\n"));
+}
+
+#[test]
+fn refusals_of_certificates_are_printed(rt: HostRuntime) {
+    let clash = SystemFault::AxiomClash(0, 1);
+    let texts = [
+        (CertificateFault::BadLine(4), "BadLine 4"),
+        (CertificateFault::BadNumber(12), "BadNumber 12"),
+        (CertificateFault::TooLarge(3), "TooLarge 3"),
+        (CertificateFault::Truncated, "Truncated"),
+        (CertificateFault::System(clash), "AxiomClash 0 1"),
+        (CertificateFault::Memory, "Memory"),
+    ];
+    for (fault, text) in texts {
+        assert!(rt; prints(rt.alloc(), &fault, text), "{text}");
+    }
 }

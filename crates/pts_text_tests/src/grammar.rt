@@ -1,6 +1,8 @@
 use pts_grammar::{
-    Kind, SyntaxFault, Tree, parse_term, refusals_are_determined, texts_are_unambiguous,
+    Kind, Parsed, SyntaxFault, Tree, parse, parse_term, refusals_are_determined,
+    texts_are_unambiguous,
 };
+use pts_samples::prints;
 use pts_tokens::read_tokens;
 use std::alloc::Global;
 use std::test::Fail;
@@ -86,4 +88,41 @@ fn a_term_of_the_greatest_depth_is_read(rt: HostRuntime) -> Result<(), Fail> {
     text.push_str("x")?;
     assert!(rt; matches!(parsed(alloc, text.as_str()), Ok(Tree::Let(_, _, _, _))));
     Ok(())
+}
+
+/// What comes of the term with which a text begins.
+fn begun(alloc: Global, text: &str) -> Option<Parsed> {
+    match read_tokens(alloc, text, 0) {
+        Ok(tokens) => parse(alloc, tokens.as_slice(), text.len()).ok(),
+        Err(_) => None,
+    }
+}
+
+#[test]
+fn a_term_ends_before_the_first_token_that_does_not_go_on(rt: HostRuntime) {
+    let read = begun(rt.alloc(), "a b ; c");
+    assert!(rt; matches!(&read, Some(Parsed::Read(Some(Tree::App(_, _)), 2))));
+    let refused = begun(rt.alloc(), "; c");
+    assert!(rt; matches!(&refused, Some(Parsed::Expected(0, Kind::Term))));
+}
+
+#[test]
+fn kinds_of_tokens_are_printed(rt: HostRuntime) {
+    let texts = [
+        (Kind::Command, "Command"),
+        (Kind::Term, "Term"),
+        (Kind::Name, "Name"),
+        (Kind::Plain, "Plain"),
+        (Kind::Colon, "Colon"),
+        (Kind::Dot, "Dot"),
+        (Kind::Assign, "Assign"),
+        (Kind::In, "In"),
+        (Kind::Close, "Close"),
+        (Kind::Semicolon, "Semicolon"),
+        (Kind::Number, "Number"),
+        (Kind::End, "End"),
+    ];
+    for (kind, text) in texts {
+        assert!(rt; prints(rt.alloc(), &kind, text), "{text}");
+    }
 }

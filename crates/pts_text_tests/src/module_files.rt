@@ -1,6 +1,7 @@
 use pts_module_file::{FileFault, FileWhy, ModuleFile, read_module};
 use pts_names::Name;
 use pts_parser::{Kind, ReadFault};
+use pts_samples::prints;
 use std::alloc::Global;
 
 fn module_m(alloc: Global, text: &str) -> Result<ModuleFile, FileFault> {
@@ -62,4 +63,11 @@ fn the_first_line_that_breaks_it_is_named(rt: HostRuntime) {
 fn a_declaration_is_refused_as_a_line(rt: HostRuntime) {
     let text = "yarrow-module 1\nmodule m\ndefine f : *";
     assert!(rt; is_refused_for(&module_m(rt.alloc(), text), Kind::Assign));
+}
+
+#[test]
+fn it_is_printed_why_a_line_breaks_the_format(rt: HostRuntime) {
+    assert!(rt; prints(rt.alloc(), &FileWhy::Form, "Form"));
+    let read = FileWhy::Read(ReadFault::BadChar(7));
+    assert!(rt; prints(rt.alloc(), &read, "BadChar 7"));
 }

@@ -1,0 +1,10 @@
+use std::alloc::Global;
+use std::fmt::Display;
+
+/// Whether a value is printed so.
+pub fn prints<T: Display>(alloc: Global, value: &T, text: &str) -> bool {
+    match format!(in alloc; "{value}") {
+        Ok(printed) => printed.as_str() == text,
+        Err(_) => false,
+    }
+}
