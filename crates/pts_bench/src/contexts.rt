@@ -67,8 +67,8 @@ pub fn looking_up(
     }
 }
 
-// The nanoseconds since then.
-fn since(clock: &impl Clock, start: Instant) -> io::Result<u64> {
+/// The nanoseconds since then.
+pub fn since(clock: &impl Clock, start: Instant) -> io::Result<u64> {
     let time = start.elapsed(clock)?;
     let seconds = time.as_secs().saturating_mul(1_000_000_000);
     Ok(seconds.saturating_add(u64::from(time.subsec_nanos())))

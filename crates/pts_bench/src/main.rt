@@ -1,12 +1,15 @@
-// `pts_bench ENTRIES` measures how long contexts of so many definitions of 30 nodes take, and prints nanoseconds: `bench/run` makes
-// its table of contexts with it. It is no part of the product, and promises only that it keeps to what contexts ask for.
-// Stands on contexts.
+// `pts_bench ENTRIES` measures how long contexts of so many definitions of 30 nodes take, and images of records with so many terms
+// and nodes, and prints nanoseconds: `bench/run` makes its table of libraries with it. It is no part of the product, and promises
+// only that it keeps to what contexts and records ask for.
+// Stands on images and contexts.
 #![tactic(auto)]
 
 mod contexts;
 mod entries;
+mod images;
 
 use crate::contexts::{building, copying, looking_up, making};
+use crate::images::{renaming, substituting};
 use pts_ctx::ROOM;
 use std::process::ExitCode;
 use std::{env, io};
@@ -41,7 +44,10 @@ fn measure(rt: &HostRuntime, entries: usize) -> io::Result<()> {
     let copying = copying(alloc, rt, entries)?;
     let oldest = looking_up(alloc, rt, entries, 0)?;
     let missing = looking_up(alloc, rt, entries, entries)?;
+    let renaming = renaming(alloc, rt, entries)?;
+    let substituting = substituting(alloc, rt, entries)?;
     println!(rt;
         "making {making}\nbuilding {building}\ncopying {copying}\noldest {oldest}\nmissing {missing}"
-    )
+    )?;
+    println!(rt; "renaming {renaming}\nsubstituting {substituting}")
 }

@@ -1,0 +1,144 @@
+"""What is wrong with a line that is refused for its tokens, its grammar or its names."""
+
+import difflib
+from typing import List, Optional, Sequence, Tuple
+
+from .notes import Note
+from .statements import FORMS
+from .tokens import Token, character_place, tokens
+
+WANTED = {
+    "Term": "a term must begin",
+    "Name": "the name of a binder must come",
+    "Plain": "a name without dots must come",
+    "Colon": "a ':' must come",
+    "Dot": "a '.' must come",
+    "Assign": "':=' must come",
+    "In": "'in' must come",
+    "Close": "a ')' must come",
+    "End": "the line must end",
+    "Number": "a number must come",
+    "Semicolon": "a ';' must come",
+}
+INSTEAD = {
+    "∀": "Write @x:A. B.",
+    "Π": "Write @x:A. B.",
+    "λ": "Write \\x:A. b.",
+    ",": "A binder ends with a dot, as in @x:A. B.",
+    "=": "A definition has := in it.",
+    "→": "Write ->.",
+    "⇒": "Write ->.",
+    "□": "Write #.",
+    "%": "A comment is a line of its own; the command join takes comments after a declaration, too.",
+    "'": "A name has letters, digits and _; a ' begins a sort.",
+    "-": "A - is part of -> alone; a name has letters, digits and _.",
+    "\xa0": "It is a blank of another kind (a no-break space).",
+    "[": "Parentheses are ( and ).",
+    "{": "Parentheses are ( and ), and all arguments are written.",
+    "∧": "Define it: connectives are names, as in and A B.",
+    "¬": "Define it: connectives are names, as in not A.",
+}
+LETTERS = ("λ", "Π")
+AS_SIGN = {"λ": "λ is a letter here: write \\x:A. b.", "Π": "Π is a letter here: write @x:A. B."}
+HABITS = {**AS_SIGN, "fun": "Write \\x:A. b.", "forall": "Write @x:A. B."}
+TYPES = ("Prop", "Set", "Type")
+
+
+def token_from(found: Sequence[Token], place: int) -> Optional[Token]:
+    return next((it for it in found if it.start == place), None)
+
+
+def stretch(text: str, place: int) -> Tuple[int, int]:
+    """The token that begins at a place of the line, or one sign where none does."""
+    token = token_from(tokens(text), place)
+    return (place, token.end) if token else (place, place + 1)
+
+
+def bad_char(text: str, place: int) -> str:
+    sign = text[place : place + 1]
+    said = f"No token begins with '{sign}'."
+    if text.startswith("=>", place):
+        return f"{said} A function is \\x:A. b."
+    return f"{said} {INSTEAD[sign]}" if sign in INSTEAD else said
+
+
+def open_parenthesis(found: Sequence[Token], place: int) -> Optional[int]:
+    """The place of the parenthesis that is still open here."""
+    opened: List[int] = []
+    for it in found:
+        if it.start >= place:
+            break
+        if it.kind == "(":
+            opened.append(it.start)
+        elif it.kind == ")" and opened:
+            opened.pop()
+    return opened[-1] if opened else None
+
+
+def dotted_name(found: Sequence[Token], place: int, known: Sequence[str]) -> Optional[Token]:
+    """The last name before this place that has a dot in it and is unknown: perhaps it was meant as a binder's dot."""
+    names = [it for it in found if it.kind == "name" and "." in it.text and it.start < place and it.text not in known]
+    return names[-1] if names else None
+
+
+def expected(text: str, place: int, wanted: str, known: Sequence[str]) -> Note:
+    """Of `Expected`: at this place, which counts characters, something else must come."""
+    found = tokens(text)
+    here = token_from(found, place)
+    start, end = (place, here.end) if here else (place, place + 1)
+    said = f"{'Here' if here else 'The line ends, and here'} {WANTED.get(wanted, wanted)}"
+    hint = ""
+    dotted = dotted_name(found, place, known) if wanted == "Dot" else None
+    opened = open_parenthesis(found, place) if wanted == "Close" else None
+    before = [it for it in found if it.start < place]
+    if dotted:
+        start, end = dotted.start, dotted.end
+        parts = dotted.text.split(".")
+        return Note(start, end, (f"{dotted.text} is read as one name: put a blank after the dot, as in {parts[0]}. {'.'.join(parts[1:])}",))
+    if opened is not None:
+        said += f", for the '(' in column {opened + 1}"
+    if wanted == "End" and here and here is found[-1] and here.kind == ".":
+        return Note(start, end, ("No dot ends a line.",))
+    letter = next((it for it in before[-2:] if it.text.startswith(LETTERS)), None) if here and here.kind == ":" else None
+    if letter:
+        return Note(letter.start, letter.end, (AS_SIGN[letter.text[0]],))
+    if wanted in ("Plain", "Name") and here and here.kind in ("let", "in"):
+        hint = f"{here.text} is a word of the language, and no name."
+    elif here and here.kind == "number":
+        hint = "A number is no term: define it."
+    elif here and here.kind in ("\\", "@", "let") and wanted not in ("Term", "Name"):
+        hint = "As an argument, what begins with \\, @ or let is in parentheses."
+    elif wanted == "Colon" and here and here.kind == "name":
+        hint = "A binder has one name and its type, as in \\x:A. \\y:A. b."
+    elif wanted == "Term" and not here:
+        hint = "A declaration is one line; the command join makes one line of several."
+    elif wanted in ("Plain", "Colon", "Assign") and len(before) <= 2 and before[0].text in FORMS:
+        hint = f"The form of the line is: {FORMS[before[0].text]}"
+    return Note(start, end, (f"{said}.", hint) if hint else (f"{said}.",))
+
+
+def near_names(name: str, known: Sequence[str]) -> List[str]:
+    near = difflib.get_close_matches(name, known, 2, 0.6)
+    return near + [it for it in known if it.rpartition(".")[2] == name and it not in near][:2]
+
+
+def unknown_name(module: str, name: str, known: Sequence[str], later: Optional[int], uses: Sequence[str]) -> str:
+    """Of a name that is bound by nothing and declared nowhere before. `later` is the line that declares it, if one does."""
+    first, dot, rest = name.partition(".")
+    if later is not None:
+        return f"{name} is declared later, in line {later}."
+    if name in TYPES:
+        return f"{name} is no sort here: the sort of types is *."
+    if name in HABITS:
+        return HABITS[name]
+    if dot and first in (module, "_"):
+        return f"Inside of its module it is called {rest}."
+    if dot and first not in uses:
+        return f"{name} is of another module, and there is no line: uses {first}"
+    near = near_names(name, known)
+    said = f"{name} is no binder and no declaration before this line."
+    return f"{said} Near to it: {', '.join(near)}." if near else said
+
+
+def place_in(text: str, byte: int) -> int:
+    return min(character_place(text, byte), len(text))
