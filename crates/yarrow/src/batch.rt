@@ -17,6 +17,7 @@ use pts_ctx::System;
 use pts_io::{Library, Sink, write_whole};
 use pts_names::{Name, NameFault, Text};
 use std::alloc::{AllocError, Global};
+use std::mem::forget;
 
 /// How many units the statements of a module may cost.
 pub const BUDGET: u64 = 1_000_000;
@@ -133,10 +134,13 @@ fn print_batch<K: Sink>(alloc: Global, batch: Batch, sink: &mut K) -> Finish
 {
     let Batch {
         lines,
+        declarations,
         context,
         refused,
         ..
     } = batch;
+    // The run ends after these lines; the system takes back the memory.
+    forget(declarations);
     match print_lines(alloc, lines.items(), sink) {
         Ok(()) => {}
         Err(Unprinted::WriteFailed) => return ended(alloc, 5, context),

@@ -18,9 +18,10 @@ mod system;
 mod tests;
 mod words;
 
-use crate::run::run;
+use crate::run::{Finish, run};
 use pts_io::{FolderLibrary, StdSink, StdSource};
 use std::env;
+use std::mem::forget;
 use std::process::ExitCode;
 
 /// Runs with the words after the program's own name. Words that are not UTF-8 are of no form.
@@ -36,12 +37,19 @@ fn main(rt: HostRuntime) -> ExitCode {
     let mut source = StdSource::new(rt.stdin());
     let mut sink = StdSink::new(rt.stdout());
     let mut library = FolderLibrary::new(rt);
-    let finish = run(
+    let Finish {
+        status,
+        context,
+        order,
+    } = run(
         alloc,
         words.as_slice(),
         &mut source,
         &mut sink,
         &mut library,
     );
-    ExitCode::from(finish.status)
+    // The process ends here, so nothing is gained by giving memory back piece by piece.
+    forget(context);
+    forget(order);
+    ExitCode::from(status)
 }

@@ -20,6 +20,7 @@ use pts_names::List;
 use pts_replay::{Replay, play_input};
 use pts_session::{CoreTable, Request, Session, SessionPlayer, World};
 use std::alloc::{AllocError, Global};
+use std::mem::forget;
 
 /// How many sessions there are.
 const SESSIONS: u32 = 64;
@@ -111,13 +112,18 @@ fn play_source<S: Source, K: Sink>(
     play_input(alloc, world, game, source, sink, true, LIMIT as u32)
 }
 
-// The front of the core.
+// The front of the core. The history is as long as the run, and the process ends soon: where a copy of the front can be had,
+// the core is not given back piece by piece.
 fn front_of(core: CoreTable) -> Context
     ensures front { labelled result ≡ replay core.core.history }
     ensures legal { Legal core.core.system (bare_front result.entries) }
 {
     core.core.is_legal();
-    core.core.into_context()
+    let Ok(context) = core.core.context().copy() else {
+        return core.core.into_context();
+    };
+    forget(core);
+    context
 }
 
 // The end of a run whose play came to this end.
