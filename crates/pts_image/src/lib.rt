@@ -1,6 +1,6 @@
-// Images of records: a constant gets another name, constants are replaced by judged terms, a record is grafted on another.
-// What is valid stays valid over the fronts that the laws name, and concludes the image of what it concluded.
-// Stands on the rules and on records.
+//! Images of records: a constant gets another name, constants are replaced by judged terms, a record is grafted on another.
+//! What is valid stays valid over the fronts that the laws name, and concludes the image of what it concluded.
+//! Stands on the rules and on records.
 #![tactic(auto)]
 
 mod append;

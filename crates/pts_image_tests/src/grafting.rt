@@ -1,4 +1,4 @@
-use crate::makers::{is_valid, last_size};
+use crate::makers::{is_valid, last_judges};
 use pts_check::{Context, Record};
 use pts_image::{graft, is_closed_judgement};
 use pts_samples::fill;
@@ -28,7 +28,7 @@ fn a_record_that_is_grafted_on_itself_is_valid_and_says_the_same(rt: HostRuntime
     match star(rt.alloc()) {
         Some(image) => {
             assert!(rt; is_valid(&Context::new(rt.alloc()), &image));
-            assert!(rt; last_size(&image) == 1);
+            assert!(rt; last_judges(&image, 0, 1));
             assert!(rt; image.nodes() == 4);
         }
         None => assert!(rt; false),

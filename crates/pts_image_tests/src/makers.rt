@@ -88,6 +88,24 @@ pub fn arrow(alloc: Global, text: &str) -> Option<Record> {
     Some(proof)
 }
 
+fn is_sort(shape: &Shape, sort: u8) -> bool {
+    matches!(shape, Shape::Sort(Sort(number)) if *number == sort)
+}
+
+/// Whether the last node judges that the sort with this number has that one as its type.
+pub fn last_judges(proof: &Record, subject: u8, claim: u8) -> bool {
+    let count = proof.nodes();
+    if count == 0 {
+        return false;
+    }
+    match proof.judged(count - 1) {
+        Some(terms) => {
+            is_sort(proof.shape(terms.subject), subject) && is_sort(proof.shape(terms.claim), claim)
+        }
+        None => false,
+    }
+}
+
 /// The size of the subject of the last node, or 0 where there is none.
 pub fn last_size(proof: &Record) -> u32 {
     let count = proof.nodes();
