@@ -5,6 +5,8 @@ from yarrow_tools.sentences import explained
 from yarrow_tools.source import Source
 
 HEAD = "yarrow-module 1\nmodule m\n"
+# What comes after the line that is refused.
+TAIL = "assume P : T\ndefine D := \\x:*. x -> P\nend\n"
 IS_LETTER = "λ is a letter here: write \\x:A. b."
 
 # A line of a module, its refusal, what of the line is pointed at, and the sentences.
@@ -33,13 +35,13 @@ READING = [
     ("define a := " + "b" * 129, "BadFile 3 LongName 12", "b" * 129, "This name has more than 128 bytes."),
     ("define a := Prop", "Declaration 3 UnknownName 12 Prop", "Prop", "Prop is no sort here: the sort of types is *."),
     ("define a := m.b", "Declaration 3 UnknownName 12 m.b", "m.b", "Inside of its module it is called b."),
-    ("define a := logic.and", "Declaration 3 UnknownName 12 logic.and", "logic.and", "logic.and is of another module, and there is no line: uses logic"),
+    ("define a := logic.and", "Declaration 3 UnknownName 12 logic.and", "logic.and", "logic.and is of another module, and there is no line: uses logic (which is not built yet)"),
     ("define a := c", "Declaration 3 UnknownName 12 c", "c", "c is no binder and no declaration before this line."),
     ("define a := 'set", "Declaration 3 UnknownSort 12 'set", "'set", "The system has no sort 'set."),
 ]
 FLAWS = [
     ("define a : T -> T := \\x:T. id x", "term 1.1 NotConvertible - m.T ; *", "x", "This has the type T, and should have the type *."),
-    ("define a : T := f g", "term 1 NotASort _.T", "g", "This is used as a type, and is none: T is no sort."),
+    ("define a : T := \\x:g. x", "term 0 NotASort _.T", "g", "This is used as a type, and is none: T is no sort."),
     ("define a : T := f g", "term 0 NotProduct m.T", "f", "This is applied to an argument, and is no function: it has the type T."),
     ("define a := #", "term - NoAxiom #", "#", "The sort # has no type in this system."),
     ("define a := f (g h)", "term 1.0.1 NoAxiom #", "f (g h)", "The sort # has no type in this system."),
@@ -50,9 +52,18 @@ FLAWS = [
         "This has the type (\\z:A. eq A x z) y, that is eq A x y, and should have the type eq A y x. (Both are under A : *, x : A, y : A, eq A x y.)",
     ),
     ("define a : U := p", "term - NotConvertible 1 m.P b ; m.P c", "p", "This has the type P b, and should have the type P c. There b is not c."),
+    # Where a head may be unfolded, the path leads into what it is then.
+    ("define a : U := p", "term - NotConvertible 0 m.D b ; m.D c", "p", "This has the type D b, and should have the type D c."),
+    ("define a : U := p", "term - NotConvertible 0 m.D m.P b ; m.D m.P c", "p", "This has the type D P b, and should have the type D P c."),
+    ("define a : U := p", "term - NotConvertible 1.1 m.P (m.D b c) ; m.P (m.D b d)", "p", "This has the type P (D b c), and should have the type P (D b d)."),
+    ("define a : U := p", "term - NotConvertible 1 m.P (m.D b c) ; m.P b", "p", "This has the type P (D b c), and should have the type P b. There (D b c) is not b."),
+    ("define a := let f := b : B in p f", "term 2.1 NotConvertible 1 f b ; f c", "f", "This has the type f b, and should have the type f c."),
+    ("define a := \\x:*. *", "term 1 NotASort #", "*", "This has the type #, which has no sort in this system, so that the whole has no type."),
+    ("define a := let x := b : B in *", "term 2 NotASort #", "*", "This has the type #, which has no sort in this system, so that the whole has no type."),
+    ("define a := f b", "term 1 NotASort #", "b", "This should have the type #, which has no sort in this system."),
 ]
 LINES = [
-    ("define a := b", "Declaration 3 Deep", "define a := b", "A term on the way is deeper than 2,000 or larger than 1,000,000, or inference nests deeper than 4,000."),
+    ("define a := b", "Declaration 3 Deep", "define a := b", "A term on the way is deeper than 2,000 or larger than 1,000,000, or inference nests deeper than 4,000, or a comparison deeper than 2,000."),
     ("define a := b", "Declaration 3 Spent", "define a := b", "The module's budget of 1,000,000 units is used up here: this computes too long."),
     ("define a := b", "Declaration 3 Taken m.a 0", "a", "a is declared already. Take another name."),
     ("uses logic", "NotBuilt 3", "uses logic", "Lines with uses and with parameter are not built yet."),
@@ -64,7 +75,7 @@ LINES = [
 
 class Sentences(unittest.TestCase):
     def judge(self, line, said, pointed, wanted):
-        source = Source("m.yar", (HEAD + line + "\nend\n").encode())
+        source = Source("m.yar", (HEAD + line + "\n" + TAIL).encode())
         number, note = explained(source, refusal("refused m " + said))
         self.assertEqual((source.line(number)[note.start : note.end], note.text), (pointed, wanted))
 

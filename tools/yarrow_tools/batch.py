@@ -1,4 +1,4 @@
-"""`batch` at a terminal: what the program prints, and on standard error the refusal in sentences, with its line."""
+"""A refusal of `batch` in sentences, with its line, on standard error. The program has printed its own line by then."""
 
 import os
 import sys
@@ -45,12 +45,7 @@ def explanation(words: Sequence[str], answer: Answer, width: int) -> List[str]:
 
 
 def run(words: Sequence[str]) -> int:
-    try:
-        answer = ask(["batch", *words])
-    except KeyboardInterrupt:
-        return 130
-    sys.stdout.buffer.write(answer.printed)
-    sys.stdout.buffer.flush()
+    answer = ask(["batch", *words])
     for line in explanation(words, answer, width_of(sys.stderr)):
         print(line, file=sys.stderr)
     return answer.status

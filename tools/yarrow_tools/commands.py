@@ -1,23 +1,28 @@
 """The commands that bin/yarrow hands to these tools, each with what it ends with."""
 
+import errno
 import os
 import sys
 from typing import Sequence
 
 from . import batch, compare, join, lint, listing
 
-COMMANDS = {"batch": batch.run, "compare": compare.run, "join": join.run, "lint": lint.run, "systems": listing.run}
+COMMANDS = {"compare": compare.run, "explain": batch.run, "join": join.run, "lint": lint.run, "systems": listing.run}
 NOT_WRITTEN = 5
+# Why standard output could not be written: nobody reads it, its file can't grow, its device fails.
+UNWRITTEN = (errno.EPIPE, errno.ENOSPC, errno.EFBIG, errno.EDQUOT, errno.EIO)
 
 
 def main(words: Sequence[str]) -> int:
-    """Runs a command. The status 2 says that its words have no form, and 5 that nobody reads what it prints."""
+    """Runs a command. The status 2 says that its words have no form, and 5 that what it prints could not be written."""
     if not words or words[0] not in COMMANDS:
         return 2
     try:
         status = COMMANDS[words[0]](words[1:])
         sys.stdout.flush()
-    except BrokenPipeError:
+    except OSError as error:
+        if error.errno not in UNWRITTEN:
+            raise
         os.dup2(os.open(os.devnull, os.O_WRONLY), 1)
         return NOT_WRITTEN
     except KeyboardInterrupt:

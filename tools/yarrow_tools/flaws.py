@@ -1,10 +1,56 @@
 """What is wrong with a term that the system has no type for."""
 
 import re
-from typing import Callable, List, NamedTuple, Optional, Sequence, Tuple
+from typing import Callable, FrozenSet, List, NamedTuple, Optional, Sequence, Tuple
 
 from .beta import without_redexes
 from .terms import Tree, parse
+
+
+# What a part is to the term around it.
+BODY, ARGUMENT, OTHER = "body", "argument", "other"
+
+
+class Said(NamedTuple):
+    """What the program said of a part of a term: what the part is called at the start of a sentence, the kind of the flaw with its
+    values, and what the part is to the term around it."""
+
+    what: str
+    kind: str
+    values: str
+    role: str = OTHER
+
+
+def stem(name: str) -> str:
+    """The name without the number by which the printer tells it from others."""
+    return name.rstrip("0123456789")
+
+
+def defined_in(tree: Optional[Tree]) -> FrozenSet[str]:
+    """The stems of the names that a term defines locally."""
+    if not tree:
+        return frozenset()
+    own = {stem(tree.text)} if tree.kind == "let" else set()
+    return frozenset(own.union(*map(defined_in, tree.parts)))
+
+
+class Names(NamedTuple):
+    """The module of a refusal, what it assumes, by short names, and the stems of what the term defines locally."""
+
+    module: str
+    assumed: FrozenSet[str]
+    defined: FrozenSet[str]
+
+    def short(self, text: str) -> str:
+        """The text as it is written inside of the module."""
+        return without_module(text, self.module)
+
+    def is_fixed(self, name: str) -> bool:
+        """Whether a name in a printed type takes no step: it is that of a binder, which has no dot, or of an assumption."""
+        label, dot, last = name.rpartition(".")
+        if not dot:
+            return stem(name) not in self.defined
+        return label in ("_", self.module) and last in self.assumed
 
 
 class Difference(NamedTuple):
@@ -37,37 +83,59 @@ def under_binders(have: str, want: str, path: str) -> Difference:
     return Difference(have, want, tuple(under), path)
 
 
-def parts_that_differ(have: str, want: str, path: str) -> Optional[Tuple[str, str]]:
-    """The parts of two types at the path, where it leads through nodes of the same kinds in both."""
+def is_form(tree: Tree, names: Names) -> bool:
+    """Whether the term is its own weak head normal form by its looks: no step can be done at its head."""
+    head = tree
+    while head.kind == "app":
+        head = head.parts[0]
+    return head.kind == "sort" or (head.kind == "name" and names.is_fixed(head.text)) or (head is tree and head.kind in ("\\", "@"))
+
+
+def parts_that_differ(have: str, want: str, path: str, names: Names) -> Optional[Tuple[str, str]]:
+    """The parts of two types at the path, which leads into their weak head normal forms, where these are the types as they are."""
     left, right = parse(have), parse(want)
-    for step in [] if path == "-" else path.split("."):
-        if not left or not right or left.kind != right.kind or int(step) >= min(len(left.parts), len(right.parts)):
-            return None
-        left, right = left.parts[int(step)], right.parts[int(step)]
     if path == "-" or not left or not right:
         return None
-    return have[left.start : left.end], want[right.start : right.end]
+    for step in path.split("."):
+        if not is_form(left, names) or not is_form(right, names):
+            return None
+        if left.kind != right.kind or int(step) >= min(len(left.parts), len(right.parts)):
+            return None
+        left, right = left.parts[int(step)], right.parts[int(step)]
+    parts = have[left.start : left.end], want[right.start : right.end]
+    return parts if parts[0] != parts[1] else None
 
 
-def with_steps(text: str) -> str:
+def with_steps(text: str, names: Names) -> str:
     """The type, and what it is after its beta steps, where they change it."""
     stepped = without_redexes(text)
-    return text if stepped in (None, text) else f"{text}, that is {stepped}"
+    shown = names.short(text)
+    return shown if stepped in (None, text) else f"{shown}, that is {names.short(stepped)}"
 
 
-def not_convertible(what: str, values: str) -> Tuple[str, ...]:
+def not_convertible(what: str, values: str, names: Names) -> Tuple[str, ...]:
     """Of a part that has one type where another is wanted."""
     path, _, types = values.partition(" ")
     have, _, want = types.partition(" ; ")
     found = under_binders(have, want, path)
-    said = [f"{what} has the type {with_steps(found.have)}, and should have the type {with_steps(found.want)}."]
+    said = [f"{what} has the type {with_steps(found.have, names)}, and should have the type {with_steps(found.want, names)}."]
     if found.under:
-        said.append(f"(Both are under {', '.join(found.under)}.)")
-    if (without_redexes(found.have), without_redexes(found.want)) == (found.have, found.want):
-        parts = parts_that_differ(found.have, found.want, found.path)
-        if parts:
-            said.append(f"There {parts[0]} is not {parts[1]}.")
+        said.append(f"(Both are under {', '.join(map(names.short, found.under))}.)")
+    parts = parts_that_differ(found.have, found.want, found.path, names)
+    if parts:
+        said.append(f"There {names.short(parts[0])} is not {names.short(parts[1])}.")
     return tuple(said)
+
+
+def not_a_sort(what: str, values: str, names: Names, role: str) -> Tuple[str, ...]:
+    """Of a part that isn't a type where one is wanted, or whose type has no sort."""
+    if role == BODY:
+        said = f"{what} has the type {names.short(values)}, which has no sort in this system, so that the whole has no type."
+    elif role == ARGUMENT:
+        said = f"{what} should have the type {names.short(values)}, which has no sort in this system."
+    else:
+        said = f"{what} is used as a type, and is none: {with_steps(values, names)} is no sort."
+    return (said,)
 
 
 def no_rule(what: str, values: str, systems_with: Callable[[str, str], Sequence[str]]) -> Tuple[str, ...]:
@@ -78,17 +146,28 @@ def no_rule(what: str, values: str, systems_with: Callable[[str, str], Sequence[
     return (said, f"Systems that have it: {', '.join(systems)}.") if systems else (said,)
 
 
-def flaw_sentences(what: str, kind: str, values: str, systems_with: Callable[[str, str], Sequence[str]]) -> Tuple[str, ...]:
-    """What a flaw of this kind says of a part, which is called `what` at the start of a sentence."""
+def flaw_sentences(said: Said, names: Names, systems_with: Callable[[str, str], Sequence[str]]) -> Tuple[str, ...]:
+    """What a flaw says of a part."""
+    what, kind, values = said.what, said.kind, said.values
     if kind == "NotConvertible":
-        return not_convertible(what, values)
+        return not_convertible(what, values, names)
     if kind == "NoRule":
         return no_rule(what, values, systems_with)
     if kind == "NoAxiom":
         return (f"The sort {values} has no type in this system.",)
     if kind == "NotASort":
-        return (f"{what} is used as a type, and is none: {with_steps(values)} is no sort.",)
-    return (f"{what} is applied to an argument, and is no function: it has the type {with_steps(values)}.",)
+        return not_a_sort(what, values, names, said.role)
+    return (f"{what} is applied to an argument, and is no function: it has the type {with_steps(values, names)}.",)
+
+
+def role(tree: Optional[Tree], path: str) -> str:
+    """What the part to which a path leads is to the term around it: the body of a function or of a local definition, an argument,
+    or something else, such as a type."""
+    around, _, step = ("-." + path).rpartition(".") if path != "-" else ("-", "", "")
+    outer = tree.part(around[2:] or "-") if tree and step else None
+    if not outer:
+        return OTHER
+    return {("\\", "1"): BODY, ("let", "2"): BODY, ("app", "1"): ARGUMENT}.get((outer.kind, step), OTHER)
 
 
 def stretch(tree: Optional[Tree], path: str) -> Optional[Tuple[int, int]]:

@@ -1,4 +1,4 @@
-"""`lint SPEC MODULE..`: all refusals of modules at once, each as FILE:LINE:COLUMN-END: and sentences."""
+"""`lint SPEC MODULE`: all refusals of a module at once, each as FILE:LINE:COLUMN-END: and sentences."""
 
 import sys
 from typing import Callable, Dict, List, NamedTuple, Sequence, Tuple

@@ -134,7 +134,7 @@ def unknown_name(module: str, name: str, known: Sequence[str], later: Optional[i
     if dot and first in (module, "_"):
         return f"Inside of its module it is called {rest}."
     if dot and first not in uses:
-        return f"{name} is of another module, and there is no line: uses {first}"
+        return f"{name} is of another module, and there is no line: uses {first} (which is not built yet)"
     near = near_names(name, known)
     said = f"{name} is no binder and no declaration before this line."
     return f"{said} Near to it: {', '.join(near)}." if near else said

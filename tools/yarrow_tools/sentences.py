@@ -3,7 +3,7 @@
 from typing import NamedTuple, Optional
 
 from . import forms, reading
-from .flaws import flaw_sentences, stretch, without_module
+from .flaws import Names, Said, defined_in, flaw_sentences, role, stretch, without_module
 from .notes import Note
 from .refusal import Refusal
 from .source import Source
@@ -15,7 +15,7 @@ OF_THE_NAME = {
 }
 OF_THE_LINE = {
     "TooDeep": "The term is nested deeper than 2,000.",
-    "Deep": "A term on the way is deeper than 2,000 or larger than 1,000,000, or inference nests deeper than 4,000.",
+    "Deep": "A term on the way is deeper than 2,000 or larger than 1,000,000, or inference nests deeper than 4,000, or a comparison deeper than 2,000.",
     "Spent": "The module's budget of 1,000,000 units is used up here: this computes too long.",
     "NotBuilt": "Lines with uses and with parameter are not built yet.",
 }
@@ -66,10 +66,11 @@ def of_a_flaw(source: Source, line: int, refused: Refusal) -> Note:
     stated = source.statement(line)
     term = stated.part(refused.part) if stated else None
     found = stretch(term, refused.path)
-    values = without_module(refused.values, source.module)
     what = "This" if found else f"The part {refused.path} of the {refused.part}"
     start, end = found or stretch(term, "-") or forms.stretch(source.line(line))
-    return Note(start, end, flaw_sentences(what, refused.kind, values, systems_with))
+    said = Said(what, refused.kind, refused.values, role(term, refused.path))
+    names = Names(source.module, source.assumed(), defined_in(term))
+    return Note(start, end, flaw_sentences(said, names, systems_with))
 
 
 def of_the_name(source: Source, line: int, refused: Refusal) -> Note:

@@ -1,7 +1,7 @@
 """The text of a module, by lines and by places in them."""
 
 import os
-from typing import List, NamedTuple, Optional, Tuple
+from typing import FrozenSet, List, NamedTuple, Optional, Tuple
 
 from .join import joined
 from .terms import Statement, statement
@@ -85,6 +85,11 @@ class Source:
             if stated and stated.name and stated.name.text == name:
                 return number
         return None
+
+    def assumed(self) -> FrozenSet[str]:
+        """The names that the module assumes, or takes as parameters."""
+        found = [self.statement(it) for it in range(1, len(self.lines) + 1)]
+        return frozenset(it.name.text for it in found if it and it.name and it.word in ("assume", "parameter"))
 
     def uses(self) -> List[str]:
         return [it.split(" ")[1] for it in self.lines if it.startswith("uses ") and it.count(" ") == 1]
