@@ -67,28 +67,49 @@ fn add_terms(record: &mut Record, constant: Name, binder: &Name) -> Result<(), R
     Ok(())
 }
 
-/// The empty context, and those of `g : A -> A -> A`, of `x : A` after it, and of `y : A` after both.
+/// The empty context.
 pub const EMPTY: usize = 0;
+
+/// The context of `g : A -> A -> A`.
 pub const G: usize = 8;
+
+/// The context of `g` and `x : A`.
 pub const X: usize = 10;
+
+/// The context of `g`, `x` and `y : A`.
 pub const Y: usize = 16;
 
-/// The judgement of the theorem, and in the last three contexts those of `A -> A`, of `A` and of variables.
+/// That the theorem is a type.
 pub const THEOREM: usize = 13;
-pub const ARROW_IN_G: usize = 12;
-pub const ARROW_IN_X: usize = 18;
-pub const A_IN_X: usize = 11;
-pub const G_IN_X: usize = 15;
-pub const X_IN_X: usize = 14;
-pub const Y_IN_Y: usize = 19;
 
-/// That `A -> A -> A` is a type where there are `g` and `x`.
+/// That `A -> A` is a type, where there is `g`.
+pub const ARROW_IN_G: usize = 12;
+
+/// That `A -> A` is a type, where there are `g` and `x`.
+pub const ARROW_IN_X: usize = 18;
+
+/// That `A -> A -> A` is a type, where there are `g` and `x`.
 pub const BINARY_IN_X: usize = 25;
 
-/// Comparisons of `A`, of `A -> A` and of `A -> A -> A` with themselves, the second where there is `g`, the others where there
-/// are `g` and `x`.
+/// That `A` is a type, where there are `g` and `x`.
+pub const A_IN_X: usize = 11;
+
+/// That `g` has its type, where there are `g` and `x`.
+pub const G_IN_X: usize = 15;
+
+/// That `x` has its type, where there are `g` and `x`.
+pub const X_IN_X: usize = 14;
+
+/// That `y` has its type, where there is `y`.
+pub const Y_IN_Y: usize = 19;
+
+/// The comparison of `A` with itself, where there are `g` and `x`.
 pub const A_IS_A: usize = 20;
+
+/// The comparison of `A -> A` with itself, where there is `g`.
 pub const ARROW_IS_ARROW: usize = 21;
+
+/// The comparison of `A -> A -> A` with itself, where there are `g` and `x`.
 pub const BINARY_IS_BINARY: usize = 26;
 
 // Nodes, by their form, context, subject, claim, first and second premise.

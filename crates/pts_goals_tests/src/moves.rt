@@ -81,8 +81,10 @@ pub const CHANGE: Move = Move::Change {
     comparison: A_IS_A,
 };
 
-/// `x`, and `y` where it is.
+/// `x`
 pub const EXACT_X: Move = Move::Exact(X_IN_X);
+
+/// `y`
 pub const EXACT_Y: Move = Move::Exact(Y_IN_Y);
 
 /// The steps of `\g. \x. (\y:A. y) (g x x)`.
@@ -167,19 +169,23 @@ pub struct Wanted {
     pub names: &'static [&'static str],
 }
 
-/// The goal `A` where there are `g` and `x`, in the places that the steps give it.
+/// The goal `A` under the two abstractions.
 pub const A_BODY: Wanted = Wanted {
     ctx: X,
     statement: A,
     place: 2,
     names: &["g", "x"],
 };
+
+/// The goal of a lemma there, and of the second argument of a function.
 pub const A_LEMMA: Wanted = Wanted {
     ctx: X,
     statement: A,
     place: 3,
     names: &["g", "x"],
 };
+
+/// The goal of an argument in the lemma, and of the first argument of a function.
 pub const A_ARGUMENT: Wanted = Wanted {
     ctx: X,
     statement: A,
