@@ -81,7 +81,7 @@ fn is_assumption(record: &Record, ctx: usize, ty: &Judged, node: usize) -> bool
 
 /// A judgement of a product and those of its two parts, the second one in the context `inner`.
 #[derive(Clone, Copy)]
-pub struct Product {
+pub struct Parts {
     pub whole: Judged,
     pub domain: Judged,
     pub inner: usize,
@@ -90,7 +90,7 @@ pub struct Product {
 
 /// The product that a node judges, and that its two premises judge in parts.
 #[tactic(auto, using(crate::proofs::Facts::is_product))]
-pub fn product(record: &Record, ctx: usize, node: usize, inner: usize) -> Option<Product>
+pub fn product(record: &Record, ctx: usize, node: usize, inner: usize) -> Option<Parts>
     ensures { IfSome result (λ p. IsProduct record.now ctx p.whole p.domain p.inner p.body) }
 {
     let whole = sorted(record, ctx, node)?;
@@ -102,7 +102,7 @@ pub fn product(record: &Record, ctx: usize, node: usize, inner: usize) -> Option
     let body = sorted(record, inner, line.second)?;
     match record.shape(whole.subject) {
         Shape::Pi(_, left, right) if *left == domain.subject && *right == body.subject => {
-            Some(Product {
+            Some(Parts {
                 whole,
                 domain,
                 inner,
