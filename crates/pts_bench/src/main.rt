@@ -1,14 +1,17 @@
 // `pts_bench ENTRIES` measures how long contexts of so many definitions of 30 nodes take, and images of records with so many terms
-// and nodes, and prints nanoseconds: `bench/run` makes its table of libraries with it. It is no part of the product, and promises
-// only that it keeps to what contexts and records ask for.
-// Stands on images and contexts.
+// and nodes, and open proofs of 1,000 and of 10,000 steps, and prints nanoseconds: `bench/run` makes its tables of libraries with
+// it. It is no part of the product, and promises only that it keeps to what contexts, records and open proofs ask for.
+// Stands on open proofs, images and contexts.
 #![tactic(auto)]
 
 mod contexts;
 mod entries;
+mod goals;
 mod images;
+mod steps;
 
 use crate::contexts::{building, copying, looking_up, making};
+use crate::goals::{finishing, refilling};
 use crate::images::{renaming, substituting};
 use pts_ctx::ROOM;
 use std::process::ExitCode;
@@ -49,5 +52,17 @@ fn measure(rt: &HostRuntime, entries: usize) -> io::Result<()> {
     println!(rt;
         "making {making}\nbuilding {building}\ncopying {copying}\noldest {oldest}\nmissing {missing}"
     )?;
-    println!(rt; "renaming {renaming}\nsubstituting {substituting}")
+    println!(rt; "renaming {renaming}\nsubstituting {substituting}")?;
+    measure_proofs(rt)
+}
+
+// The same of open proofs.
+fn measure_proofs(rt: &HostRuntime) -> io::Result<()> {
+    let alloc = rt.alloc();
+    for steps in [1_000, 10_000] {
+        let refilling = refilling(alloc, rt, steps)?;
+        let finishing = finishing(alloc, rt, steps)?;
+        println!(rt; "refilling_{steps} {refilling}\nfinishing_{steps} {finishing}")?;
+    }
+    Ok(())
 }

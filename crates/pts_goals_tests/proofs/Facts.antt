@@ -15,7 +15,7 @@ pub is_link : (r : Tables) (c : ℕ) (T : Bare) (l : Link) → l.domain < length
 is_link r c T l d e a h k = record { domain = d; codomain = e; after = a; change = h; argument = k }
 
 pub two_fit : (r : Tables) (g : Goal) (t : ℕ) (a b : Link) (ls : List Link) → ls ≡ a ∷ b ∷ [] → IsLink r g.ctx (bare_at r.shapes t) a → IsLink r g.ctx (bare_at r.shapes a.after) b → bare_at r.shapes b.after ≡ bare_at r.shapes g.statement → LinksFit r g t ls
-two_fit r g t a b ls e p q h = subst (LinksFit r g t) (sym e) (p, q, h)
+two_fit r g t a b ls e p q h = subst (LinksFit r g t) (sym e) (p, (q, h))
 
 pub two_few : (a b : Link) (ls : List Link) → ls ≡ a ∷ b ∷ [] → length ls ≤ 2000
 two_few a b ls e = let n : length ls ≡ 2 = ap length e in omega (arith, n)

@@ -77,7 +77,7 @@ pub fn fills_to(proof: &mut Proof, count: usize) -> bool
     if !fills_all(proof, &[INTRO_G, INTRO_X]) {
         return false;
     }
-    for _ in 0..count {
+    'fill: for _ in 0..count {
         if !fills(proof, APPLY_TO_X) {
             return false;
         }

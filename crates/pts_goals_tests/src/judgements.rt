@@ -8,24 +8,24 @@ use pts_goals::{Compared, Judged, Record};
 use pts_record::{Form, FormKind, Shape};
 
 /// Whether a node is an empty context.
-pub fn is_empty(record: &Record, node: usize) -> bool
-    ensures { IsTrue result → IsEmpty record.now node }
+pub fn is_empty(scratch: &Record, node: usize) -> bool
+    ensures { IsTrue result → IsEmpty scratch.now node }
 {
-    if node >= record.nodes() {
+    if node >= scratch.nodes() {
         return false;
     }
-    matches!(record.node(node).form, Form::Empty)
+    matches!(scratch.node(node).form, Form::Empty)
 }
 
 /// The judgement that a node is in a context.
-pub fn judged(record: &Record, ctx: usize, node: usize) -> Option<Judged>
-    ensures judges { IfSome result (λ j. Judges record.now ctx j) }
+pub fn judged(scratch: &Record, ctx: usize, node: usize) -> Option<Judged>
+    ensures judges { IfSome result (λ j. Judges scratch.now ctx j) }
     ensures node { IfSome result (λ j. j.node ≡ node) }
 {
-    if node >= record.nodes() {
+    if node >= scratch.nodes() {
         return None;
     }
-    let line = record.node(node);
+    let line = scratch.node(node);
     match line.form.kind() {
         FormKind::Judgement if line.ctx == ctx => Some(Judged {
             subject: line.subject,
@@ -37,25 +37,25 @@ pub fn judged(record: &Record, ctx: usize, node: usize) -> Option<Judged>
 }
 
 /// The judgement, where its claim is a sort.
-pub fn sorted(record: &Record, ctx: usize, node: usize) -> Option<Judged>
-    ensures sort { IfSome result (λ j. JudgesSort record.now ctx j) }
+pub fn sorted(scratch: &Record, ctx: usize, node: usize) -> Option<Judged>
+    ensures sort { IfSome result (λ j. JudgesSort scratch.now ctx j) }
     ensures node { IfSome result (λ j. j.node ≡ node) }
 {
-    let judged = judged(record, ctx, node)?;
-    match record.shape(judged.claim) {
+    let judged = judged(scratch, ctx, node)?;
+    match scratch.shape(judged.claim) {
         Shape::Sort(_) => Some(judged),
         _ => None,
     }
 }
 
 /// The comparison that a node is in a context.
-pub fn compared(record: &Record, ctx: usize, node: usize) -> Option<Compared>
-    ensures { IfSome result (λ o. Compares record.now ctx o) }
+pub fn compared(scratch: &Record, ctx: usize, node: usize) -> Option<Compared>
+    ensures { IfSome result (λ o. Compares scratch.now ctx o) }
 {
-    if node >= record.nodes() {
+    if node >= scratch.nodes() {
         return None;
     }
-    let line = record.node(node);
+    let line = scratch.node(node);
     match line.form.kind() {
         FormKind::Comparison if line.ctx == ctx => Some(Compared {
             left: line.subject,
@@ -67,15 +67,15 @@ pub fn compared(record: &Record, ctx: usize, node: usize) -> Option<Compared>
 }
 
 // Whether a node is the context with an assumption more, the subject of a judgement in it.
-fn is_assumption(record: &Record, ctx: usize, ty: &Judged, node: usize) -> bool
-    requires { Judges record.now ctx ty.now }
-    ensures { IsTrue result → IsAssumeOf record.now ctx ty.now node }
+fn is_assumption(scratch: &Record, ctx: usize, ty: &Judged, node: usize) -> bool
+    requires { Judges scratch.now ctx ty.now }
+    ensures { IsTrue result → IsAssumeOf scratch.now ctx ty.now node }
 {
     let _ = ctx;
-    if node >= record.nodes() {
+    if node >= scratch.nodes() {
         return false;
     }
-    let line = record.node(node);
+    let line = scratch.node(node);
     matches!(line.form, Form::Assume) && line.first == ty.node
 }
 
@@ -90,17 +90,17 @@ pub struct Parts {
 
 /// The product that a node judges, and that its two premises judge in parts.
 #[tactic(auto, using(crate::proofs::Facts::is_product))]
-pub fn product(record: &Record, ctx: usize, node: usize, inner: usize) -> Option<Parts>
-    ensures { IfSome result (λ p. IsProduct record.now ctx p.whole p.domain p.inner p.body) }
+pub fn product(scratch: &Record, ctx: usize, node: usize, inner: usize) -> Option<Parts>
+    ensures { IfSome result (λ p. IsProduct scratch.now ctx p.whole p.domain p.inner p.body) }
 {
-    let whole = sorted(record, ctx, node)?;
-    let line = record.node(whole.node);
-    let domain = sorted(record, ctx, line.first)?;
-    if !is_assumption(record, ctx, &domain, inner) {
+    let whole = sorted(scratch, ctx, node)?;
+    let line = scratch.node(whole.node);
+    let domain = sorted(scratch, ctx, line.first)?;
+    if !is_assumption(scratch, ctx, &domain, inner) {
         return None;
     }
-    let body = sorted(record, inner, line.second)?;
-    match record.shape(whole.subject) {
+    let body = sorted(scratch, inner, line.second)?;
+    match scratch.shape(whole.subject) {
         Shape::Pi(_, left, right) if *left == domain.subject && *right == body.subject => {
             Some(Parts {
                 whole,

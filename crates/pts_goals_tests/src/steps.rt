@@ -14,18 +14,18 @@ use std::alloc::{AllocError, Global};
 
 // The comparison of two terms by a node; none where they are the same and no node is given.
 fn conversion(
-    record: &Record,
+    scratch: &Record,
     ctx: usize,
     from: usize,
     to: usize,
     by: Option<usize>,
 ) -> Option<Option<Compared>>
-    ensures { IfSome result (λ o. Converts record.now ctx (bare_at record.now.shapes from) (bare_at record.now.shapes to) o) }
+    ensures { IfSome result (λ o. Converts scratch.now ctx (bare_at scratch.now.shapes from) (bare_at scratch.now.shapes to) o) }
 {
     let Some(node) = by else {
         return if from == to { Some(None) } else { None };
     };
-    let compared = compared(record, ctx, node)?;
+    let compared = compared(scratch, ctx, node)?;
     if compared.left != from || compared.right != to {
         return None;
     }
@@ -34,26 +34,26 @@ fn conversion(
 
 // Whether a term is another one that is lifted past one binder.
 #[tactic(auto, using(pts_terms::proofs::Same::same_term_eq))]
-fn is_lifted(record: &Record, term: usize, other: usize) -> bool
-    ensures { IsTrue result → bare_at record.now.shapes term ≡ lift 0 1 (bare_at record.now.shapes other) }
+fn is_lifted(scratch: &Record, term: usize, other: usize) -> bool
+    ensures { IsTrue result → bare_at scratch.now.shapes term ≡ lift 0 1 (bare_at scratch.now.shapes other) }
 {
-    if term >= record.terms() || other >= record.terms() {
+    if term >= scratch.terms() || other >= scratch.terms() {
         return false;
     }
-    record.limits(other);
-    record.is_lift(term, 0, 1, other)
+    scratch.limits(other);
+    scratch.is_lift(term, 0, 1, other)
 }
 
 // Whether a term is a body with an argument put in.
 #[tactic(auto, using(pts_terms::proofs::Same::same_term_eq))]
-fn is_put(record: &Record, term: usize, argument: usize, body: usize) -> bool
-    ensures { IsTrue result → bare_at record.now.shapes term ≡ subst 0 (bare_at record.now.shapes argument) (bare_at record.now.shapes body) }
+fn is_put(scratch: &Record, term: usize, argument: usize, body: usize) -> bool
+    ensures { IsTrue result → bare_at scratch.now.shapes term ≡ subst 0 (bare_at scratch.now.shapes argument) (bare_at scratch.now.shapes body) }
 {
-    if term >= record.terms() || argument >= record.terms() || body >= record.terms() {
+    if term >= scratch.terms() || argument >= scratch.terms() || body >= scratch.terms() {
         return false;
     }
-    record.limits(body);
-    record.is_put(term, 0, 0, argument, body)
+    scratch.limits(body);
+    scratch.is_put(term, 0, 0, argument, body)
 }
 
 /// A judgement that closes the goal.
@@ -89,10 +89,10 @@ pub fn intro(
         return None;
     }
     let goal = proof.goal(0);
-    let record = proof.scratch();
-    let product = product(record, goal.ctx, node, inner)?;
+    let scratch = proof.scratch();
+    let product = product(scratch, goal.ctx, node, inner)?;
     let change = conversion(
-        record,
+        scratch,
         goal.ctx,
         product.whole.subject,
         goal.statement,
@@ -102,7 +102,7 @@ pub fn intro(
         name,
         product: product.whole,
         domain: product.domain,
-        inner,
+        inner: product.inner,
         sorted: product.body,
         change,
     })
@@ -118,16 +118,16 @@ pub fn cut(proof: &Proof, name: Name, node: usize, inner: usize) -> Option<Step>
         return None;
     }
     let goal = proof.goal(0);
-    let record = proof.scratch();
-    let product = product(record, goal.ctx, node, inner)?;
-    if !is_lifted(record, product.body.subject, goal.statement) {
+    let scratch = proof.scratch();
+    let product = product(scratch, goal.ctx, node, inner)?;
+    if !is_lifted(scratch, product.body.subject, goal.statement) {
         return None;
     }
     Some(Step::Cut {
         name,
         lemma: product.domain,
         product: product.whole,
-        inner,
+        inner: product.inner,
         sorted: product.body,
     })
 }
@@ -142,9 +142,9 @@ pub fn change(proof: &Proof, statement: usize, node: usize, comparison: usize) -
         return None;
     }
     let goal = proof.goal(0);
-    let record = proof.scratch();
-    let sorted = sorted(record, goal.ctx, node)?;
-    let comparison = compared(record, goal.ctx, comparison)?;
+    let scratch = proof.scratch();
+    let sorted = sorted(scratch, goal.ctx, node)?;
+    let comparison = compared(scratch, goal.ctx, comparison)?;
     if sorted.subject != statement
         || comparison.left != statement
         || comparison.right != goal.statement
@@ -167,26 +167,26 @@ pub enum Way {
 
 // The argument of a product with these two parts, after which the type is `after`.
 fn argument(
-    record: &Record,
+    scratch: &Record,
     ctx: usize,
     way: Way,
     domain: usize,
     codomain: usize,
     after: usize,
 ) -> Option<Argument>
-    ensures { IfSome result (λ a. IsArgument record.now ctx a (bare_at record.now.shapes domain) (bare_at record.now.shapes codomain) (bare_at record.now.shapes after)) }
+    ensures { IfSome result (λ a. IsArgument scratch.now ctx a (bare_at scratch.now.shapes domain) (bare_at scratch.now.shapes codomain) (bare_at scratch.now.shapes after)) }
 {
     match way {
         Way::Given(node) => {
-            let judged = judged(record, ctx, node)?;
-            if judged.claim != domain || !is_put(record, after, judged.subject, codomain) {
+            let judged = judged(scratch, ctx, node)?;
+            if judged.claim != domain || !is_put(scratch, after, judged.subject, codomain) {
                 return None;
             }
             Some(Argument::Given(judged))
         }
         Way::Left(node) => {
-            let sorted = sorted(record, ctx, node)?;
-            if sorted.subject != domain || !is_lifted(record, codomain, after) {
+            let sorted = sorted(scratch, ctx, node)?;
+            if sorted.subject != domain || !is_lifted(scratch, codomain, after) {
                 return None;
             }
             Some(Argument::Left(sorted))
@@ -196,18 +196,18 @@ fn argument(
 
 // The reduction of a type to itself, by the node of its sort and that of the comparison; none where no nodes are given.
 fn reduction(
-    record: &Record,
+    scratch: &Record,
     ctx: usize,
     ty: usize,
     by: Option<(usize, usize)>,
 ) -> Option<Option<Reduction>>
-    ensures { IfSome result (λ d. ReducesTo record.now ctx (bare_at record.now.shapes ty) (bare_at record.now.shapes ty) d) }
+    ensures { IfSome result (λ d. ReducesTo scratch.now ctx (bare_at scratch.now.shapes ty) (bare_at scratch.now.shapes ty) d) }
 {
     let Some((node, comparison)) = by else {
         return Some(None);
     };
-    let sorted = sorted(record, ctx, node)?;
-    let compared = compared(record, ctx, comparison)?;
+    let sorted = sorted(scratch, ctx, node)?;
+    let compared = compared(scratch, ctx, comparison)?;
     if sorted.subject != ty || compared.left != ty || compared.right != ty {
         return None;
     }
@@ -217,25 +217,25 @@ fn reduction(
 // The application of a function of that type, after which the type is `after`.
 #[tactic(auto, using(crate::proofs::Facts::is_link))]
 fn link(
-    record: &Record,
+    scratch: &Record,
     ctx: usize,
     ty: usize,
     way: Way,
     by: Option<(usize, usize)>,
     after: usize,
 ) -> Option<Link>
-    ensures link { IfSome result (λ l. IsLink record.now ctx (bare_at record.now.shapes ty) l) }
+    ensures link { IfSome result (λ l. IsLink scratch.now ctx (bare_at scratch.now.shapes ty) l) }
     ensures after { IfSome result (λ l. l.after ≡ after) }
 {
-    if ty >= record.terms() || after >= record.terms() {
+    if ty >= scratch.terms() || after >= scratch.terms() {
         return None;
     }
-    let Shape::Pi(_, domain, codomain) = record.shape(ty) else {
+    let Shape::Pi(_, domain, codomain) = scratch.shape(ty) else {
         return None;
     };
     let (domain, codomain) = (*domain, *codomain);
-    let change = reduction(record, ctx, ty, by)?;
-    let argument = argument(record, ctx, way, domain, codomain, after)?;
+    let change = reduction(scratch, ctx, ty, by)?;
+    let argument = argument(scratch, ctx, way, domain, codomain, after)?;
     Some(Link {
         change,
         domain,
@@ -269,14 +269,14 @@ pub fn apply(
         return None;
     }
     let goal = proof.goal(0);
-    let record = proof.scratch();
-    let function = judged(record, goal.ctx, node)?;
-    let first = link(record, goal.ctx, function.claim, ways.0, by, ARROW)?;
-    let second = link(record, goal.ctx, first.after, ways.1, None, A)?;
+    let scratch = proof.scratch();
+    let function = judged(scratch, goal.ctx, node)?;
+    let first = link(scratch, goal.ctx, function.claim, ways.0, by, ARROW)?;
+    let second = link(scratch, goal.ctx, first.after, ways.1, None, A)?;
     if second.after != goal.statement {
         return None;
     }
-    match both(record.alloc(), first, second) {
+    match both(scratch.alloc(), first, second) {
         Ok(links) => Some(Step::Apply { function, links }),
         Err(_) => None,
     }
