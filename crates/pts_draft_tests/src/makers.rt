@@ -5,7 +5,7 @@ ghost use Rattle.std.specs.Prelude.{◌≡◌, IfSome};
 use pts_core::Context;
 use pts_declare::{Meter, Name, Stated, System, Term};
 use pts_draft::{Draft, DraftFault};
-use pts_terms::Sort;
+use pts_terms::{Boxed, Sort};
 use std::alloc::Global;
 
 /// A name.
@@ -24,8 +24,7 @@ fn term(alloc: Global, text: &str) -> Option<Term> {
     Some(Term::Const(named(alloc, text)?))
 }
 
-/// An assumption where there is no body, else a definition, with its type where there is one.
-pub fn stated(alloc: Global, ty: &str, body: &str) -> Option<Stated> {
+fn given(alloc: Global, ty: &str, body: &str) -> Option<Stated> {
     if body.is_empty() {
         return Some(Stated::Assumption(term(alloc, ty)?));
     }
@@ -34,6 +33,11 @@ pub fn stated(alloc: Global, ty: &str, body: &str) -> Option<Stated> {
     }
     let ty = term(alloc, ty)?;
     Some(Stated::Typed(ty, term(alloc, body)?))
+}
+
+/// An assumption where there is no body, else a definition, with its type where there is one.
+pub fn stated(alloc: Global, ty: &str, body: &str) -> Option<Boxed<Stated>> {
+    Boxed::new(alloc, given(alloc, ty, body)?).ok()
 }
 
 /// States something of a name.
@@ -54,7 +58,16 @@ pub fn state(
     }
 }
 
-/// Declares a name, for which nine units are enough.
+// Whether nine units are enough for a declaration.
+fn is_declared(system: &System, draft: &mut Draft, name: Name, stated: &Stated) -> bool
+    requires { system.now ≡ draft.old.system }
+    ensures { draft.new.system ≡ draft.old.system }
+{
+    let mut meter = Meter::new(9);
+    state(system, draft, name, stated, &mut meter).is_ok()
+}
+
+/// Declares a name.
 pub fn declare(
     alloc: Global,
     system: &System,
@@ -68,10 +81,10 @@ pub fn declare(
 {
     let name = named(alloc, name)?;
     let stated = stated(alloc, ty, body)?;
-    let mut meter = Meter::new(9);
-    match state(system, draft, name, &stated, &mut meter) {
-        Ok(()) => Some(()),
-        Err(_) => None,
+    if is_declared(system, draft, name, stated.get()) {
+        Some(())
+    } else {
+        None
     }
 }
 

@@ -1,8 +1,11 @@
 // What is stated of a name becomes a declaration, or is refused.
 
+ghost use Rattle.std.specs.Prelude.{◌≡◌};
+
 use crate::makers::{filled, named, state, stated};
 use crate::words::says;
-use pts_declare::Meter;
+use pts_declare::{Meter, Name, Stated, System};
+use pts_draft::Draft;
 use pts_samples::simple;
 use std::alloc::Global;
 
@@ -32,15 +35,41 @@ type Row = (
     usize,
 );
 
+// Whether a statement is answered so, at this cost.
+fn answers(
+    alloc: Global,
+    system: &System,
+    draft: &mut Draft,
+    name: Name,
+    stated: &Stated,
+    units: u64,
+    wanted: &str,
+    spent: u64,
+) -> bool
+    requires { system.now ≡ draft.old.system }
+{
+    let mut meter = Meter::new(units);
+    let answer = state(system, draft, name, stated, &mut meter);
+    says(alloc, system, &answer, wanted) && meter.spent() == spent
+}
+
 fn is_answered(alloc: Global, row: &Row) -> Option<bool> {
     let (name, ty, body, units, wanted, spent, count) = *row;
     let system = simple(alloc)?;
     let mut draft = filled(alloc, &system)?;
     let name = named(alloc, name)?;
     let stated = stated(alloc, ty, body)?;
-    let mut meter = Meter::new(units);
-    let answer = state(&system, &mut draft, name, &stated, &mut meter);
-    Some(says(alloc, &system, &answer, wanted) && meter.spent() == spent && draft.len() == count)
+    let is_answered = answers(
+        alloc,
+        &system,
+        &mut draft,
+        name,
+        stated.get(),
+        units,
+        wanted,
+        spent,
+    );
+    Some(is_answered && draft.len() == count)
 }
 
 #[test]

@@ -1,0 +1,17 @@
+//! Tests of sessions, over cores and over ports to them, and of the lines that ask about a scope.
+//! They show that each call answers, and in a worked case what.
+//! No crate stands on it.
+#![tactic(auto)]
+
+#[cfg(test)]
+mod laws;
+#[cfg(test)]
+mod lines;
+#[cfg(test)]
+mod local;
+#[cfg(test)]
+mod makers;
+#[cfg(test)]
+mod plays;
+#[cfg(test)]
+mod queries;
