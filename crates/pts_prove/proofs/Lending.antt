@@ -1,15 +1,14 @@
 -- An open proof whose record is lent to a command, and the step that is put into it.
-use Rattle.std.proofs.Common.{◌≡◌, ℕ, zero, suc, ◌+◌, ◌-◌, ◌<◌, List, [], ◌∷◌, ◌++◌, length, Option, Some, None, Bool, true, false, refl, sym, ap, ◌∙◌, subst, arith, Result, Ok, Err}
-use Rattle.std.specs.Prelude.{slice_get, map, pred}
+use Rattle.std.proofs.Common.{◌≡◌, ℕ, zero, suc, List, [], ◌∷◌, ◌++◌, length, Some, None, true, false, refl, sym, ap, ◌∙◌, subst, arith, Result, Ok, Err}
+use Rattle.std.specs.Prelude.{map, pred}
 use Rattle.std.specs.Option.{option_map}
 use Rattle.std.specs.Result.{IsErr, IsErrAnd}
-use Rattle.pts_names.specs.Name.{Name}
 use Rattle.pts_terms.specs.Tree.{Named, sort, app}
 use Rattle.pts_terms.specs.Limits.{within}
 use Rattle.pts_record.specs.Table.{Tables, named_at, at}
 use Rattle.pts_rules.specs.Meter.{left}
 use Rattle.pts_reduce_cost.specs.Laws.{WithinBudget}
-use Rattle.pts_infer_cost.specs.Typing.{by_flaw, by_limits, Outcome, comes, stops}
+use Rattle.pts_infer_cost.specs.Typing.{by_flaw, comes, stops}
 use Rattle.pts_grow.specs.Keeps.{Keeps}
 use Rattle.pts_grow.proofs.Grow.{tree_stays}
 use Rattle.pts_goals.specs.declared.step.Goal.{Goal}
@@ -20,9 +19,9 @@ use Rattle.pts_goals.specs.declared.step.Step.TheVariants.{Intro, Exact, Cut, Ap
 use Rattle.pts_goals.specs.Steps.{Fits, IsGoal, spine, argument_term, links_arity}
 use Rattle.pts_goals.specs.OpenGoals.{Makes, MakesWithHoles, holes, skeleton}
 use Rattle.pts_goals.specs.OpenProofs.{OpenProof, FitsFirst, IsFilled, lent, with_scratch}
-use Rattle.pts_prove_cost.specs.Combining.{After, Free}
-use Rattle.pts_prove_cost.specs.Refinement.{Sequent, Refinement, applied_to, with_holes}
-use Rattle.pts_prove_cost.specs.Commands.{Command, Refusal, no_goal}
+use Rattle.pts_prove_cost.specs.Combining.{After}
+use Rattle.pts_prove_cost.specs.Refinement.{Sequent, applied_to, with_holes}
+use Rattle.pts_prove_cost.specs.Commands.{Command, no_goal}
 use Rattle.pts_prove_cost.proofs.OnBudget.{after_goes, free_comes}
 use Rattle.pts_prove.specs.declared.command.Command.{Command as HandedIn}
 use Rattle.pts_prove.specs.declared.fault.ProveFault.{ProveFault}
@@ -31,7 +30,7 @@ use Rattle.pts_prove.specs.declared.work.Work.{Work}
 use Rattle.pts_prove.specs.declared.work.Place.{Place}
 use Rattle.pts_prove.specs.Answered.{Refuses, Answers}
 use Rattle.pts_prove.specs.Works.{Grown, IsAsked, FitsAt, Came, sequent_at}
-use Rattle.pts_prove.specs.Refining.{argument_of, refinement_of, sequent_of, first_goal, MakesWith, Puts, stays_small, grows_large, on_first, refines, command_of, HasNoGoal, IsPut, IsRefined, names_of, Proves}
+use Rattle.pts_prove.specs.Refining.{argument_of, refinement_of, sequent_of, first_goal, MakesWith, Puts, stays_small, grows_large, on_first, refines, command_of, HasNoGoal, IsPut, names_of, Proves}
 use Rattle.pts_prove.proofs.Running.{refuses_first}
 use Rattle.pts_prove.proofs.Since.{entries_stay}
 

@@ -4,4 +4,7 @@ pub mod Stages
 pub mod Since
 pub mod TermGiven
 pub mod OtherStatement
+pub mod Scopes
+pub mod Openings
+pub mod NewVariable
 pub mod Lending

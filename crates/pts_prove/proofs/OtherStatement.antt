@@ -1,18 +1,17 @@
 -- Another statement for the goal.
-use Rattle.std.proofs.Common.{◌≡◌, ℕ, ◌<◌, refl, sym, ap, ◌∙◌, subst, length, List, [], ◌++◌, Result, Ok, Err}
+use Rattle.std.proofs.Common.{◌≡◌, ℕ, refl, sym, ap, ◌∙◌, subst, List, [], Result, Ok, Err}
 use Rattle.std.proofs.lemmas.List.{append-nil}
 use Rattle.std.specs.Result.{IsErr, IsErrAnd}
 use Rattle.std.specs.Prelude.{is_some}
 use Rattle.pts_names.specs.Name.{Name}
-use Rattle.pts_terms.specs.Tree.{Named, sort}
-use Rattle.pts_record.specs.Table.{Tables, named_at, bare_at}
+use Rattle.pts_terms.specs.Tree.{Named}
+use Rattle.pts_record.specs.Table.{bare_at}
 use Rattle.pts_rules.specs.Meter.{left}
 use Rattle.pts_rules.specs.Parts.{sort_in}
-use Rattle.pts_reduce_cost.specs.Costs.{Globals, Entries, yes_, no_, beyond, Tests, nesting}
+use Rattle.pts_reduce_cost.specs.Costs.{beyond, Tests, nesting}
 use Rattle.pts_reduce_cost.specs.Laws.{WithinBudget, AboveBudget}
-use Rattle.pts_infer_cost.specs.Typing.{Kind, here, not_convertible, Outcome, comes}
+use Rattle.pts_infer_cost.specs.Typing.{Kind, here, not_convertible, comes}
 use Rattle.pts_grow.specs.declared.compared.Compared.{Compared}
-use Rattle.pts_grow.specs.declared.judged.Judged.{Judged}
 use Rattle.pts_grow.specs.Judges.{Judges, IsSort}
 use Rattle.pts_grow.specs.Keeps.{Compares}
 use Rattle.pts_grow.proofs.Plain.{plain_sort}
@@ -25,12 +24,10 @@ use Rattle.pts_reduce.specs.declared.fault.ReduceFault.TheVariants as reduce
 use Rattle.pts_infer.specs.Answered.{behind, flaw_seen, kind_seen}
 use Rattle.pts_infer.specs.declared.answer.Flaw.{Flaw as AnswerFlaw}
 use Rattle.pts_infer.specs.declared.part.Part.{Part as AnswerPart}
-use Rattle.pts_infer.specs.declared.part.Part.TheVariants.{Ty}
 use Rattle.pts_goals.specs.declared.step.Step.{Step}
 use Rattle.pts_goals.specs.declared.step.Step.TheVariants.{Change}
-use Rattle.pts_prove_cost.specs.Combining.{After}
 use Rattle.pts_prove_cost.specs.Refinement.{Refinement, by_statement}
-use Rattle.pts_prove_cost.specs.Commands.{Refusal, Command, flawed, of_goal, of_type, Agrees, tested, limited, changes, converts}
+use Rattle.pts_prove_cost.specs.Commands.{flawed, of_goal, of_type, Agrees, tested, limited, changes, converts}
 use Rattle.pts_prove_cost.proofs.OneOutcome.{one_free, one_sorted}
 use Rattle.pts_prove.specs.declared.fault.ProveFault.{ProveFault}
 use Rattle.pts_prove.specs.declared.work.Work.{Work}
@@ -38,8 +35,7 @@ use Rattle.pts_prove.specs.declared.work.Place.{Place}
 use Rattle.pts_prove.specs.declared.work.Sorted.{Sorted}
 use Rattle.pts_prove.specs.Answered.{Refuses, Tells, part_seen, of_reduction}
 use Rattle.pts_prove.specs.Refining.{refinement_of}
-use Rattle.pts_prove.specs.Works.{Grown, HasTerm, IsAsked, IsNumberOf, IsJudged, IsSorted, IsCompared, FitsAt, Came, term_in, sequent_at, sorting, agreeing}
-use Rattle.pts_prove.proofs.Working.{grown_trans}
+use Rattle.pts_prove.specs.Works.{Grown, HasTerm, IsAsked, IsSorted, IsCompared, FitsAt, Came, term_in, sequent_at, sorting, agreeing}
 use Rattle.pts_prove.proofs.Running.{stops, goes_on, hands, comes_to, revalued, tells_within}
 use Rattle.pts_prove.proofs.Since.{term_stays, sequent_since, agreeing_since}
 

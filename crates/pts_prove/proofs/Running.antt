@@ -1,5 +1,5 @@
 -- How work goes on after a step, or stops with it.
-use Rattle.std.proofs.Common.{◌≡◌, ℕ, refl, sym, ap, ◌∙◌, subst, List, Result, Ok, Err}
+use Rattle.std.proofs.Common.{◌≡◌, ℕ, sym, subst, List, Result, Ok, Err}
 use Rattle.std.specs.Result.{IsErr, IsErrAnd}
 use Rattle.pts_names.specs.Name.{Name}
 use Rattle.pts_rules.specs.Meter.{left}

@@ -1,19 +1,17 @@
 -- The work of a step that comes later, seen from the beginning.
-use Rattle.std.proofs.Common.{◌≡◌, ℕ, ◌<◌, refl, sym, ap, ◌∙◌, length, Result, Ok, Err}
-use Rattle.pts_terms.specs.Tree.{Named}
-use Rattle.pts_record.specs.Table.{Tables, named_at}
-use Rattle.pts_record.specs.Said.{named_told, scope_of}
-use Rattle.pts_infer_cost.specs.Typing.{Outcome, comes, Infers, Sorts, Fits, inference_nesting}
+use Rattle.std.proofs.Common.{◌≡◌, ℕ, ◌<◌, refl, sym, ap, length, Ok}
+use Rattle.pts_record.specs.Table.{Tables}
+use Rattle.pts_record.specs.Said.{scope_of}
+use Rattle.pts_infer_cost.specs.Typing.{comes, Infers, Sorts, Fits, inference_nesting}
 use Rattle.pts_grow.specs.Keeps.{Keeps}
 use Rattle.pts_grow.proofs.Grow.{tree_stays, told_stays}
 use Rattle.pts_reduce.specs.Chain.{entries_of}
 use Rattle.pts_infer.specs.declared.part.Part.{Part as AnswerPart}
 use Rattle.pts_prove_cost.specs.Combining.{Turned, Free}
-use Rattle.pts_prove_cost.specs.Commands.{Refusal, flawed, misfit_in, Agrees}
+use Rattle.pts_prove_cost.specs.Commands.{flawed, misfit_in, Agrees}
 use Rattle.pts_prove_cost.proofs.OnBudget.{free_as}
 use Rattle.pts_prove.specs.declared.work.Work.{Work}
 use Rattle.pts_prove.specs.declared.work.Place.{Place}
-use Rattle.pts_prove.specs.declared.fault.ProveFault.{ProveFault}
 use Rattle.pts_prove.specs.Answered.{part_seen}
 use Rattle.pts_rules.specs.Meter.{left}
 use Rattle.pts_prove.specs.Works.{Grown, IsPlace, HasTerm, IsAsked, Came, term_in, sequent_at, inferring, sorting, fitting, agreeing}

@@ -1,13 +1,12 @@
 -- What the first stages of the commands answer.
-use Rattle.std.proofs.Common.{◌≡◌, ℕ, ◌<◌, refl, sym, ap, ◌∙◌, subst, List, length, Bool, true, false, Option, Some, None, Result, Ok, Err}
-use Rattle.std.specs.Prelude.{is_some}
+use Rattle.std.proofs.Common.{◌≡◌, ℕ, ◌<◌, refl, sym, ap, ◌∙◌, subst, List, length, true, Some, Ok, Err}
 use Rattle.pts_names.specs.Name.{Name}
 use Rattle.pts_terms.specs.Tree.{Named, sort}
 use Rattle.pts_terms.specs.Limits.{within}
 use Rattle.pts_record.specs.Table.{Tables, named_at}
-use Rattle.pts_record.specs.Said.{Scope, named_told, judgement, scope_of, is_judgement, place_of, subject_of, claim_of}
+use Rattle.pts_record.specs.Said.{Scope, named_told, judgement, scope_of, place_of, subject_of, claim_of}
 use Rattle.pts_rules.specs.Meter.{left}
-use Rattle.pts_reduce_cost.specs.Laws.{WithinBudget, AboveBudget}
+use Rattle.pts_reduce_cost.specs.Laws.{WithinBudget}
 use Rattle.pts_infer_cost.specs.Typing.{Flaw, FitFlaw, Outcome, comes, as_sort, Infers, Sorts, Fits, inference_nesting}
 use Rattle.pts_grow.specs.declared.fault.TermFault.{TermFault}
 use Rattle.pts_grow.specs.declared.fault.TermFault.TheVariants.{TooLarge, Memory}
@@ -30,7 +29,7 @@ use Rattle.pts_prove.specs.declared.fault.ProveFault.{ProveFault}
 use Rattle.pts_prove.specs.declared.work.Work.{Work}
 use Rattle.pts_prove.specs.declared.work.Sorted.{Sorted}
 use Rattle.pts_prove.specs.Answered.{Refuses, part_seen, put_in, misfit_put_in, of_making}
-use Rattle.pts_prove.specs.Works.{Grown, IsPlace, HasTerm, IsJudged, IsFitted, Came, term_in, claim_in, inferring, sorting, fitting}
+use Rattle.pts_prove.specs.Works.{IsPlace, HasTerm, IsJudged, IsFitted, Came, term_in, claim_in, inferring, sorting, fitting}
 
 -- A term that is handed in.
 pub taken : {a b : Work} {n : ℕ} {t : Named} → b.meter ≡ a.meter → named_at b.proof.now.shapes n ≡ t → within t ≡ true → Came a b (term_in b) (Ok n) (limited t)

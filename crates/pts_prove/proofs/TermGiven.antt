@@ -1,5 +1,5 @@
 -- A term for the goal.
-use Rattle.std.proofs.Common.{◌≡◌, ℕ, refl, sym, ap, ◌∙◌, subst, Result, Ok, Err}
+use Rattle.std.proofs.Common.{◌≡◌, ℕ, sym, ap, ◌∙◌, subst, Result, Ok, Err}
 use Rattle.std.specs.Result.{IsErr, IsErrAnd}
 use Rattle.pts_terms.specs.Tree.{Named}
 use Rattle.pts_record.specs.Table.{bare_at}
@@ -17,7 +17,7 @@ use Rattle.pts_prove.specs.declared.fault.ProveFault.{ProveFault}
 use Rattle.pts_prove.specs.declared.work.Work.{Work}
 use Rattle.pts_prove.specs.declared.work.Place.{Place}
 use Rattle.pts_prove.specs.Refining.{refinement_of}
-use Rattle.pts_prove.specs.Works.{Grown, IsAsked, IsNumberOf, IsJudged, IsFitted, FitsAt, Came, term_in, claim_in, sequent_at, inferring, fitting}
+use Rattle.pts_prove.specs.Works.{Grown, IsAsked, IsNumberOf, IsFitted, FitsAt, Came, term_in, claim_in, sequent_at, inferring, fitting}
 use Rattle.pts_prove.proofs.Working.{grown_trans}
 use Rattle.pts_prove.proofs.Running.{stops, goes_on, comes_to}
 use Rattle.pts_prove.proofs.Since.{term_stays, inferring_since, fitting_since, ended}

@@ -1,5 +1,5 @@
 -- What the calls answer, against what a command comes to.
-use Rattle.std.specs.Prelude.{◌≡◌, ℕ, List, Result, Ok, Err}
+use Rattle.std.specs.Prelude.{◌≡◌, ℕ, List, Option, Some, None, Result, Ok, Err}
 use Rattle.pts_names.specs.Name.{Name}
 use Rattle.pts_terms.specs.Seen.{named}
 use Rattle.pts_reduce_cost.specs.Laws.{WithinBudget, AboveBudget}
@@ -52,6 +52,11 @@ Tells xs w (fault.NoBody c) = w ≡ no_body c
 Tells xs w (fault.Flaw p f) = (g : Flaw) × (flaw_seen f ≡ behind xs g) × (w ≡ flawed (part_seen p) g)
 Tells xs w fault.Memory = Unit {0}
 Tells xs w _ = ⊥
+
+-- The name exists at a place, and the answer is the refusal of it.
+abbrev pub IsTaken : List Name → Name → Option ℕ → ProveFault → Type 0
+IsTaken xs x None e = ⊥
+IsTaken xs x (Some place) e = Tells xs (taken x place) e
 
 -- The command comes to what the answer stands for, at its cost; or to the refusal of it.
 abbrev pub Answers : {X A : Type 0} → List Name → (X → A) → (Outcome Refusal A → ℕ → Type 0) → Result X ProveFault → ℕ → ℕ → Type 0

@@ -1,27 +1,29 @@
 -- What a command works on, before and after a step, and what a step answers.
-use Rattle.std.specs.Prelude.{◌≡◌, ◌<◌, ℕ, List, length, Result}
+use Rattle.std.specs.Prelude.{◌≡◌, ◌<◌, ℕ, length, Some, None, Result}
 use Rattle.pts_terms.specs.Tree.{Named, sort as sort_term}
 use Rattle.pts_ctx.specs.Front.{bare_front}
-use Rattle.pts_record.specs.Table.{named_at}
+use Rattle.pts_record.specs.Table.{named_at, bare_at}
 use Rattle.pts_rules.specs.Meter.{left}
 use Rattle.pts_rules.specs.Valid.{IsValid}
-use Rattle.pts_infer_cost.specs.Typing.{Outcome, Infers, Sorts, Fits, inference_nesting}
+use Rattle.pts_infer_cost.specs.Typing.{Outcome, as_product, Infers, Sorts, Fits, inference_nesting}
 use Rattle.pts_grow.specs.declared.compared.Compared.{Compared}
 use Rattle.pts_grow.specs.declared.judged.Judged.{Judged}
 use Rattle.pts_grow.specs.Keeps.{Compares, Keeps}
-use Rattle.pts_grow.specs.Judges.{IsTypedContext, Judges}
+use Rattle.pts_grow.specs.Judges.{IsTypedContext, Judges, IsProduct}
 use Rattle.pts_reduce.specs.Given.{Later}
 use Rattle.pts_reduce.specs.Chain.{entries_of}
+use Rattle.pts_infer.specs.declared.answer.ProductParts.{ProductParts}
 use Rattle.pts_infer.specs.declared.part.Part.{Part as AnswerPart}
 use Rattle.pts_goals.specs.declared.step.Goal.{Goal}
 use Rattle.pts_goals.specs.declared.step.Step.{Step}
-use Rattle.pts_goals.specs.Steps.{Fits as StepFits}
+use Rattle.pts_goals.specs.Steps.{Converts, Fits as StepFits}
 use Rattle.pts_prove_cost.specs.Combining.{Turned}
 use Rattle.pts_prove_cost.specs.Refinement.{Sequent}
-use Rattle.pts_prove_cost.specs.Commands.{Part, Refusal, flawed, misfit_in, Agrees, Command}
+use Rattle.pts_prove_cost.specs.Commands.{Refusal, not_product, flawed, misfit_in, Forms, Agrees, Command, Opened, opens, opens_as, sorted_product}
 use Rattle.pts_prove.specs.declared.fault.ProveFault.{ProveFault}
 use Rattle.pts_prove.specs.declared.work.Work.{Work}
 use Rattle.pts_prove.specs.declared.work.Place.{Place}
+use Rattle.pts_prove.specs.declared.work.Opening.{Opening}
 use Rattle.pts_prove.specs.declared.work.Sorted.{Sorted}
 use Rattle.pts_prove.specs.Answered.{Answers, part_seen}
 
@@ -78,6 +80,22 @@ pub record IsCompared (w : Work) (c t u : ℕ) (o : Compared) : Type 0 where
   pub right : o.right ≡ u
   pub compares : Compares w.proof.now c o
 
+-- The goal is the product, or the product is compared with it.
+pub record IsOpening (w : Work) (g : Place) (o : Opening) : Type 0 where
+  pub goal : IsAsked w g
+  pub product : HasTerm w o.product
+  pub domain : HasTerm w o.domain
+  pub body : HasTerm w o.body
+  pub parts : as_product (named_at w.proof.now.shapes o.product) ≡ Some (named_at w.proof.now.shapes o.domain, named_at w.proof.now.shapes o.body)
+  pub change : Converts w.proof.now g.ctx (bare_at w.proof.now.shapes o.product) (bare_at w.proof.now.shapes g.statement) o.change
+
+-- The product with the number t is judged in the context with the number c, and so are its parts.
+pub record IsFormed (w : Work) (c t : ℕ) (f : ProductParts) : Type 0 where
+  pub place : IsPlace w c
+  pub product : HasTerm w t
+  pub is : named_at w.proof.now.shapes f.product.subject ≡ named_at w.proof.now.shapes t
+  pub formed : IsProduct w.proof.now c f.product f.domain f.inner f.body
+
 -- The step fits each goal with that context and that statement.
 pub record FitsAt (w : Work) (g : Place) (s : Step) : Type 0 where
   pub fits : (h : Goal) → h.ctx ≡ g.ctx → h.statement ≡ g.statement → StepFits w.proof.now h s
@@ -88,6 +106,13 @@ term_in w t = named_at w.proof.now.shapes t
 
 abbrev pub claim_in : Work → Judged → Named
 claim_in w j = named_at w.proof.now.shapes j.claim
+
+-- The product that a goal is, and one that is judged.
+abbrev pub opened_in : Work → Opening → Opened
+opened_in w o = record { product = term_in w o.product; domain = term_in w o.domain; body = term_in w o.body }
+
+abbrev pub product_in : Work → ProductParts → Opened
+product_in w f = record { product = term_in w f.product.subject; domain = term_in w f.domain.subject; body = term_in w f.body.subject }
 
 -- What the goal says.
 abbrev pub sequent_at : Work → Place → Sequent
@@ -105,6 +130,18 @@ fitting w c p t want = Turned (misfit_in (part_seen p)) (Fits w.system.now w.fro
 
 abbrev pub agreeing : Work → Place → (t : ℕ) → Command → ℕ → Type 0
 agreeing w g t = Agrees w.front.now.entries (entries_of w.proof.now g.ctx) (term_in w t) (term_in w g.statement)
+
+abbrev pub forming : Work → Place → Outcome Refusal Named → ℕ → Type 0
+forming w g = Forms w.front.now.entries (entries_of w.proof.now g.ctx) (term_in w g.statement)
+
+abbrev pub opening_form : Work → Place → Outcome Refusal Opened → ℕ → Type 0
+opening_form w g = opens_as w.front.now.entries (entries_of w.proof.now g.ctx) not_product (term_in w g.statement) None
+
+abbrev pub opening : Work → Place → Outcome Refusal Opened → ℕ → Type 0
+opening w g = opens w.front.now.entries (entries_of w.proof.now g.ctx) not_product (term_in w g.statement)
+
+abbrev pub sorting_product : Work → (c : ℕ) → Opened → Outcome Refusal Opened → ℕ → Type 0
+sorting_product w c p = sorted_product w.system.now w.front.now.entries (entries_of w.proof.now c) p
 
 -- From the first state to the second one the work came to what the answer stands for, or stopped with its fault.
 pub record Came {X A : Type 0} (a b : Work) (value : X → A) (r : Result X ProveFault) (costs : Outcome Refusal A → ℕ → Type 0) : Type 0 where

@@ -7,7 +7,7 @@ ghost use Rattle.pts_rules.specs.Meter.{left};
 ghost use Rattle.pts_rules.specs.Valid.{IsValid};
 ghost use Rattle.pts_grow.specs.Keeps.{Keeps};
 ghost use Rattle.pts_reduce.specs.Given.{Later};
-ghost use Rattle.pts_prove_cost.specs.Commands.{converts, exacts};
+ghost use Rattle.pts_prove_cost.specs.Commands.{converts, exacts, intros};
 ghost use Rattle.pts_prove.specs.Refining.{Proves};
 
 use crate::command::Command;
@@ -15,8 +15,34 @@ use crate::fault::ProveFault;
 use crate::refining::refine;
 use pts_ctx::{Context, System};
 use pts_goals::Proof;
+use pts_names::Name;
 use pts_rules::Meter;
 use pts_terms::Term;
+
+/// Puts an abstraction for the goal, which is a product as it stands or else by its weak head normal form, and has a sort.
+/// The product's body takes its place, under a hypothesis of this name with the product's domain.
+///
+/// # Errors
+///
+/// `NoGoal`. `Taken` where the name exists in the scope, at no cost. `NotProduct`. `Flaw` of the part `Goal`. `Spent`, `Deep`:
+/// as those of reduction and of inference with the sort test. `Deep`, last of all, where the whole term with its holes is not
+/// within limits. `Memory`.
+pub fn intro(
+    system: &System,
+    front: &Context,
+    proof: &mut Proof,
+    name: &Name,
+    meter: &mut Meter,
+) -> Result<(), ProveFault>
+    requires here { proof.old.is_lent ≡ false }
+    ensures proves { Proves proof.old (λ g. intros system.now front.now.entries g name.now) result proof.new (left meter.old) (left meter.new) }
+    ensures here { proof.new.is_lent ≡ false }
+    ensures keeps { Keeps proof.old.scratch proof.new.scratch }
+    ensures valid { IsValid system.now (bare_front front.now.entries) proof.old.scratch → IsValid system.now (bare_front front.now.entries) proof.new.scratch }
+    ensures later { Later meter.old meter.new }
+{
+    refine(system, front, proof, Command::Intro(name), meter)
+}
 
 /// Puts a term for the goal: it is inferred, and fitted to the goal. No goal takes its place.
 ///

@@ -7,11 +7,13 @@ ghost use Rattle.pts_prove.specs.Works.{Came, FitsAt, Grown, IsAsked, sequent_at
 use crate::fault::ProveFault;
 use crate::work::{Place, Work};
 use pts_goals::Step;
+use pts_names::Name;
 use pts_terms::Term;
 
 /// A command.
 #[derive(Clone, Copy)]
 pub(crate) enum Command<'a> {
+    Intro(&'a Name),
     Exact(&'a Term),
     Convert(&'a Term),
 }
@@ -26,6 +28,7 @@ impl Work<'_> {
         ensures grown { Grown self.old self.new }
     {
         match command {
+            Command::Intro(name) => self.intro(goal, name),
             Command::Exact(term) => self.exact(goal, term),
             Command::Convert(term) => self.convert(goal, term),
         }

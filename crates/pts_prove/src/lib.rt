@@ -4,6 +4,7 @@
 //! Stands on open proofs, on inference, and on the definition of the commands at their cost.
 #![tactic(auto)]
 
+mod by_abstraction;
 mod by_statement;
 mod by_term;
 mod calls;
@@ -11,9 +12,11 @@ mod command;
 mod copies;
 mod fault;
 mod judging;
+mod opening;
 mod refining;
+mod scope;
 mod taking;
 mod work;
 
-pub use calls::{convert_goal, exact};
+pub use calls::{convert_goal, exact, intro};
 pub use fault::ProveFault;

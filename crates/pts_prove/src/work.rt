@@ -1,7 +1,7 @@
 // What a command works on: a record and a meter, and the goal.
 
 use pts_ctx::{Context, System};
-use pts_grow::Judged;
+use pts_grow::{Compared, Judged};
 use pts_names::Name;
 use pts_record::Record;
 use pts_rules::Meter;
@@ -29,4 +29,13 @@ pub(crate) struct Place {
 pub(crate) struct Sorted {
     pub judged: Judged,
     pub sort: Sort,
+}
+
+/// A product with its domain and its body, and the comparison of it with the goal where the goal is another term.
+#[derive(Clone, Copy, Debug, PartialEq, Eq)]
+pub(crate) struct Opening {
+    pub product: usize,
+    pub domain: usize,
+    pub body: usize,
+    pub change: Option<Compared>,
 }

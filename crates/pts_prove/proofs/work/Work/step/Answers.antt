@@ -1,5 +1,8 @@
 use Rattle.pts_prove.proofs.work.Work.step.Goals as goal
 
+pub returns-in-Intro-clause-came : goal.returns-in-Intro-clause-came
+returns-in-Intro-clause-came c = rw c.in-Intro.is c.intro.ensures.came
+
 pub returns-in-Exact-clause-came : goal.returns-in-Exact-clause-came
 returns-in-Exact-clause-came c = rw c.in-Exact.is c.exact.ensures.came
 
