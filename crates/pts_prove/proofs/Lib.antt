@@ -7,4 +7,6 @@ pub mod OtherStatement
 pub mod Scopes
 pub mod Openings
 pub mod NewVariable
+pub mod LemmaFirst
+pub mod BodyPut
 pub mod Lending

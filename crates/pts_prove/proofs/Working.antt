@@ -48,17 +48,20 @@ no_step {a} = record {
 }
 
 -- A step that adds to the record and pays nothing.
-pub adds : {a b : Work} → b.system ≡ a.system → b.front ≡ a.front → b.names ≡ a.names → b.proof.ghost_name ≡ a.proof.ghost_name → b.meter ≡ a.meter → Keeps a.proof.now b.proof.now → StaysValid a.proof.now b.proof.now → Grown a b
-adds {a} {b} p q n r m k v = record {
+pub adds_here : {a b : Work} → b.system ≡ a.system → b.front ≡ a.front → b.names ≡ a.names → b.proof.ghost_name ≡ a.proof.ghost_name → b.meter ≡ a.meter → Keeps a.proof.now b.proof.now → (IsValid a.system.now (bare_front a.front.now.entries) a.proof.now → IsValid a.system.now (bare_front a.front.now.entries) b.proof.now) → Grown a b
+adds_here {a} {b} p q n r m k v = record {
   system = p;
   front = q;
   names = n;
   record_name = r;
   meter_name = ap (λ x. x.ghost_name) m;
   keeps = k;
-  valid = v a.system.now (bare_front a.front.now.entries);
+  valid = v;
   later = subst (λ x. Later a.meter.now x.now) (sym m) (later_refl a.meter.now);
 }
+
+pub adds : {a b : Work} → b.system ≡ a.system → b.front ≡ a.front → b.names ≡ a.names → b.proof.ghost_name ≡ a.proof.ghost_name → b.meter ≡ a.meter → Keeps a.proof.now b.proof.now → StaysValid a.proof.now b.proof.now → Grown a b
+adds {a} {b} p q n r m k v = adds_here p q n r m k (v a.system.now (bare_front a.front.now.entries))
 
 -- What the record has and says it keeps.
 pub place_later : {a b : Work} {c : ℕ} → Grown a b → IsPlace a c → IsPlace b c
@@ -117,4 +120,7 @@ number_term h = h.term
 pub judged_itself : {w : Work} {c t : ℕ} {j : Judged} → IsJudged w c t j → IsJudged w c j.subject j
 judged_itself h = record { place = h.place; subject = refl; claim = h.claim; judges = h.judges }
 
-pub ruleset going_on = (since, no_step, place_later, term_later, number_later, asked_later, judged_later, sorted_later, fitted_later, compared_later, asked_place, asked_statement, number_term, judged_itself)
+pub sorted_itself : {w : Work} {c t : ℕ} {s : Sorted} → IsSorted w c t s → IsSorted w c s.judged.subject s
+sorted_itself h = record { judged = judged_itself h.judged; sort = h.sort }
+
+pub ruleset going_on = (since, no_step, place_later, term_later, number_later, asked_later, judged_later, sorted_later, fitted_later, compared_later, asked_place, asked_statement, number_term, judged_itself, sorted_itself)

@@ -1,15 +1,18 @@
 -- What a command works on, before and after a step, and what a step answers.
-use Rattle.std.specs.Prelude.{◌≡◌, ◌<◌, ℕ, length, Some, None, Result}
-use Rattle.pts_terms.specs.Tree.{Named, sort as sort_term}
-use Rattle.pts_ctx.specs.Front.{bare_front}
+use Rattle.std.specs.Prelude.{◌≡◌, ◌<◌, ℕ, ◌∷◌, length, Some, None, is_some, Result}
+use Rattle.std.specs.List.{position}
+use Rattle.pts_names.specs.Name.{Name, same_name}
+use Rattle.pts_terms.specs.Tree.{Named, sort as sort_term, lift, pi, named_pi}
+use Rattle.pts_ctx.specs.System.{rule_of}
+use Rattle.pts_ctx.specs.Front.{assumed, find, bare_front}
 use Rattle.pts_record.specs.Table.{named_at, bare_at}
 use Rattle.pts_rules.specs.Meter.{left}
 use Rattle.pts_rules.specs.Valid.{IsValid}
-use Rattle.pts_infer_cost.specs.Typing.{Outcome, as_product, Infers, Sorts, Fits, inference_nesting}
+use Rattle.pts_infer_cost.specs.Typing.{Outcome, comes, as_product, by_rule, Infers, Sorts, Fits, inference_nesting}
 use Rattle.pts_grow.specs.declared.compared.Compared.{Compared}
 use Rattle.pts_grow.specs.declared.judged.Judged.{Judged}
 use Rattle.pts_grow.specs.Keeps.{Compares, Keeps}
-use Rattle.pts_grow.specs.Judges.{IsTypedContext, Judges, IsProduct}
+use Rattle.pts_grow.specs.Judges.{IsTypedContext, Judges, IsAssumeOf, IsProduct}
 use Rattle.pts_reduce.specs.Given.{Later}
 use Rattle.pts_reduce.specs.Chain.{entries_of}
 use Rattle.pts_infer.specs.declared.answer.ProductParts.{ProductParts}
@@ -17,12 +20,13 @@ use Rattle.pts_infer.specs.declared.part.Part.{Part as AnswerPart}
 use Rattle.pts_goals.specs.declared.step.Goal.{Goal}
 use Rattle.pts_goals.specs.declared.step.Step.{Step}
 use Rattle.pts_goals.specs.Steps.{Converts, Fits as StepFits}
-use Rattle.pts_prove_cost.specs.Combining.{Turned}
-use Rattle.pts_prove_cost.specs.Refinement.{Sequent}
-use Rattle.pts_prove_cost.specs.Commands.{Refusal, not_product, flawed, misfit_in, Forms, Agrees, Command, Opened, opens, opens_as, sorted_product}
+use Rattle.pts_prove_cost.specs.Combining.{After, Turned, Free}
+use Rattle.pts_prove_cost.specs.Refinement.{Sequent, by_lemma}
+use Rattle.pts_prove_cost.specs.Commands.{of_goal, Refusal, not_product, flawed, misfit_in, in_goal_under, limited, Forms, Agrees, Command, Opened, opens, opens_as, sorted_product, unfolds_entry}
 use Rattle.pts_prove.specs.declared.fault.ProveFault.{ProveFault}
 use Rattle.pts_prove.specs.declared.work.Work.{Work}
 use Rattle.pts_prove.specs.declared.work.Place.{Place}
+use Rattle.pts_prove.specs.declared.work.LemmaParts.{LemmaParts}
 use Rattle.pts_prove.specs.declared.work.Opening.{Opening}
 use Rattle.pts_prove.specs.declared.work.Sorted.{Sorted}
 use Rattle.pts_prove.specs.Answered.{Answers, part_seen}
@@ -96,6 +100,34 @@ pub record IsFormed (w : Work) (c t : ℕ) (f : ProductParts) : Type 0 where
   pub is : named_at w.proof.now.shapes f.product.subject ≡ named_at w.proof.now.shapes t
   pub formed : IsProduct w.proof.now c f.product f.domain f.inner f.body
 
+-- The place is under the goal: the lemma is assumed there, and the statement is the goal's.
+pub record IsUnder (w : Work) (g : Place) (l : Sorted) (u : Place) : Type 0 where
+  pub goal : IsAsked w g
+  pub lemma : IsSorted w g.ctx l.judged.subject l
+  pub asked : IsAsked w u
+  pub inner : IsAssumeOf w.proof.now g.ctx l.judged u.ctx
+  pub statement : named_at w.proof.now.shapes u.statement ≡ lift 0 1 (named_at w.proof.now.shapes g.statement)
+
+-- The lemma and the goal under it have sorts.
+pub record AreParts (w : Work) (g : Place) (p : LemmaParts) : Type 0 where
+  pub goal : IsAsked w g
+  pub lemma : IsSorted w g.ctx p.lemma.judged.subject p.lemma
+  pub inner : IsAssumeOf w.proof.now g.ctx p.lemma.judged p.inner
+  pub body : IsSorted w p.inner p.body.judged.subject p.body
+  pub statement : named_at w.proof.now.shapes p.body.judged.subject ≡ lift 0 1 (named_at w.proof.now.shapes g.statement)
+
+-- The number is that of a product of these terms.
+pub record IsPi (w : Work) (n t u : ℕ) : Type 0 where
+  pub product : HasTerm w n
+  pub domain : HasTerm w t
+  pub body : HasTerm w u
+  pub is : bare_at w.proof.now.shapes n ≡ pi (bare_at w.proof.now.shapes t) (bare_at w.proof.now.shapes u)
+
+-- The judgement is of the product of the lemma and the goal under it.
+pub record IsCut (w : Work) (g : Place) (p : LemmaParts) (j : Judged) : Type 0 where
+  pub parts : AreParts w g p
+  pub product : IsProduct w.proof.now g.ctx j p.lemma.judged p.inner p.body.judged
+
 -- The step fits each goal with that context and that statement.
 pub record FitsAt (w : Work) (g : Place) (s : Step) : Type 0 where
   pub fits : (h : Goal) → h.ctx ≡ g.ctx → h.statement ≡ g.statement → StepFits w.proof.now h s
@@ -142,6 +174,24 @@ opening w g = opens w.front.now.entries (entries_of w.proof.now g.ctx) not_produ
 
 abbrev pub sorting_product : Work → (c : ℕ) → Opened → Outcome Refusal Opened → ℕ → Type 0
 sorting_product w c p = sorted_product w.system.now w.front.now.entries (entries_of w.proof.now c) p
+
+abbrev pub sorting_lemma : Work → (x : Name) → Place → (T : Named) → Outcome Refusal ℕ → ℕ → Type 0
+sorting_lemma w x g T = Turned (in_goal_under x) (Sorts w.system.now w.front.now.entries inference_nesting (assumed T ∷ entries_of w.proof.now g.ctx) (lift 0 1 (term_in w g.statement)))
+
+abbrev pub sorting_under : Work → (x : Name) → Place → Outcome Refusal ℕ → ℕ → Type 0
+sorting_under w x u = Turned (in_goal_under x) (Sorts w.system.now w.front.now.entries inference_nesting (entries_of w.proof.now u.ctx) (term_in w u.statement))
+
+abbrev pub ruling : Work → (s r : ℕ) → Outcome Refusal Named → ℕ → Type 0
+ruling w s r = Turned (flawed of_goal) (Free (by_rule s r (rule_of w.system.now s r) (λ q. comes (sort_term q))))
+
+abbrev pub cutting : Work → Place → (x : Name) → (T : Named) → (s r : ℕ) → Command → ℕ → Type 0
+cutting w g x T s r =
+    After (ruling w s r) (λ q.
+    After (limited (named_pi x T (lift 0 1 (term_in w g.statement)))) (λ p.
+    Free (comes (by_lemma x T (lift 0 1 (term_in w g.statement))))))
+
+abbrev pub putting_body : Work → Place → (c : Name) → Outcome Refusal Named → ℕ → Type 0
+putting_body w g c = unfolds_entry w.system.now w.front.now.entries (sequent_at w g) c (is_some (position (same_name c) w.names.now)) (find c w.front.now.entries)
 
 -- From the first state to the second one the work came to what the answer stands for, or stopped with its fault.
 pub record Came {X A : Type 0} (a b : Work) (value : X → A) (r : Result X ProveFault) (costs : Outcome Refusal A → ℕ → Type 0) : Type 0 where

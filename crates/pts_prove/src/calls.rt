@@ -7,7 +7,7 @@ ghost use Rattle.pts_rules.specs.Meter.{left};
 ghost use Rattle.pts_rules.specs.Valid.{IsValid};
 ghost use Rattle.pts_grow.specs.Keeps.{Keeps};
 ghost use Rattle.pts_reduce.specs.Given.{Later};
-ghost use Rattle.pts_prove_cost.specs.Commands.{converts, exacts, intros};
+ghost use Rattle.pts_prove_cost.specs.Commands.{converts, cuts, exacts, intros, unfolds};
 ghost use Rattle.pts_prove.specs.Refining.{Proves};
 
 use crate::command::Command;
@@ -65,6 +65,59 @@ pub fn exact(
     ensures later { Later meter.old meter.new }
 {
     refine(system, front, proof, Command::Exact(term), meter)
+}
+
+/// Puts a lemma before the goal: an abstraction over it, applied. The lemma takes the goal's place, and after it the goal under
+/// a hypothesis of this name.
+///
+/// # Errors
+///
+/// `NoGoal`. `Taken` where the name exists in the scope, and `Deep` where the lemma is not within limits, at no cost. `Flaw` of
+/// the part `Ty` where the lemma is flawed, and of the part `Goal` where the goal under it is, or where there is no rule for
+/// the two sorts. `Spent`, `Deep`: as those of inference with the sort test; `Deep` too where the product of the lemma and the
+/// goal is not within limits. `Deep`, last of all, where the whole term with its holes is not within limits. `Memory`.
+pub fn cut(
+    system: &System,
+    front: &Context,
+    proof: &mut Proof,
+    name: &Name,
+    ty: &Term,
+    meter: &mut Meter,
+) -> Result<(), ProveFault>
+    requires here { proof.old.is_lent ≡ false }
+    ensures proves { Proves proof.old (λ g. cuts system.now front.now.entries g name.now (named ty.now)) result proof.new (left meter.old) (left meter.new) }
+    ensures here { proof.new.is_lent ≡ false }
+    ensures keeps { Keeps proof.old.scratch proof.new.scratch }
+    ensures valid { IsValid system.now (bare_front front.now.entries) proof.old.scratch → IsValid system.now (bare_front front.now.entries) proof.new.scratch }
+    ensures later { Later meter.old meter.new }
+{
+    refine(system, front, proof, Command::Cut(name, ty), meter)
+}
+
+/// Puts the body of a constant for each of its occurrences in the goal. The new statement takes the goal's place: it has a sort,
+/// and is convertible with the goal.
+///
+/// # Errors
+///
+/// `NoGoal`. `NoBody` where the name is that of an assumption or of a hypothesis, `NotThere` where it does not occur in the
+/// goal, and `Deep` where the new statement is not within limits, at no cost. `Flaw` of the part `Goal`. `Spent`, `Deep`: as
+/// those of inference with the sort test and of the conversion test. `Deep`, last of all, where the whole term with its holes
+/// is not within limits. `Memory`.
+pub fn unfold(
+    system: &System,
+    front: &Context,
+    proof: &mut Proof,
+    name: &Name,
+    meter: &mut Meter,
+) -> Result<(), ProveFault>
+    requires here { proof.old.is_lent ≡ false }
+    ensures proves { Proves proof.old (λ g. unfolds system.now front.now.entries g name.now) result proof.new (left meter.old) (left meter.new) }
+    ensures here { proof.new.is_lent ≡ false }
+    ensures keeps { Keeps proof.old.scratch proof.new.scratch }
+    ensures valid { IsValid system.now (bare_front front.now.entries) proof.old.scratch → IsValid system.now (bare_front front.now.entries) proof.new.scratch }
+    ensures later { Later meter.old meter.new }
+{
+    refine(system, front, proof, Command::Unfold(name), meter)
 }
 
 /// Puts another statement in the place of the goal: it has a sort, and is convertible with the goal.

@@ -15,6 +15,8 @@ use pts_terms::Term;
 pub(crate) enum Command<'a> {
     Intro(&'a Name),
     Exact(&'a Term),
+    Cut(&'a Name, &'a Term),
+    Unfold(&'a Name),
     Convert(&'a Term),
 }
 
@@ -30,6 +32,8 @@ impl Work<'_> {
         match command {
             Command::Intro(name) => self.intro(goal, name),
             Command::Exact(term) => self.exact(goal, term),
+            Command::Cut(name, ty) => self.cut(goal, name, ty),
+            Command::Unfold(name) => self.unfold(goal, name),
             Command::Convert(term) => self.convert(goal, term),
         }
     }

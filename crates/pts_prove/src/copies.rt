@@ -1,6 +1,6 @@
 // Copies of names.
 
-ghost use Rattle.std.specs.Prelude.{◌≡◌, IfOk};
+ghost use Rattle.std.specs.Prelude.{[], ◌++◌, ◌∷◌, ◌≡◌, IfOk};
 
 use pts_names::Name;
 use std::alloc::{AllocError, Global};
@@ -13,5 +13,19 @@ pub(crate) fn copy_names(alloc: Global, names: &[Name]) -> Result<Vec<Name>, All
     for name in names {
         copies.push(name.copy()?)?;
     }
+    Ok(copies)
+}
+
+/// The same names with one after them.
+#[tactic(auto)]
+pub(crate) fn names_with(
+    alloc: Global,
+    names: &[Name],
+    last: &Name,
+) -> Result<Vec<Name>, AllocError>
+    ensures { IfOk result (λ v. v.items ≡ names.now ++ last.now ∷ []) }
+{
+    let mut copies = copy_names(alloc, names)?;
+    copies.push(last.copy()?)?;
     Ok(copies)
 }

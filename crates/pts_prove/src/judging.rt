@@ -1,16 +1,17 @@
 // The inferences that a command asks for.
 
-ghost use Rattle.std.specs.Prelude.{◌≡◌, ◌<◌, IfOk, Some, is_some, length, true};
+ghost use Rattle.std.specs.Prelude.{[], ◌++◌, ◌∷◌, ◌≡◌, ◌<◌, IfOk, Some, is_some, length, true};
 ghost use Rattle.pts_record.specs.Table.{named_at};
 ghost use Rattle.pts_record.specs.Said.{named_told, is_judgement, place_of, subject_of, claim_of};
 ghost use Rattle.pts_infer_cost.specs.Typing.{as_sort};
 ghost use Rattle.pts_grow.specs.Judges.{Judges};
-ghost use Rattle.pts_prove.specs.Works.{Came, Grown, HasTerm, IsFitted, IsJudged, IsPlace, IsSorted, claim_in, fitting, inferring, sorting};
+ghost use Rattle.pts_prove.specs.Works.{Came, Grown, HasTerm, IsAsked, IsFitted, IsJudged, IsPlace, IsSorted, claim_in, fitting, inferring, sorting, sorting_under};
 
 use crate::fault::{ProveFault, misfit_put_in, put_in};
-use crate::work::{Sorted, Work};
+use crate::work::{Place, Sorted, Work};
 use pts_grow::{Judged, judged_at};
 use pts_infer::{Part, fit, infer, infer_sorted};
+use pts_names::Name;
 use pts_record::{Record, Shape};
 use pts_terms::Sort;
 
@@ -136,6 +137,38 @@ impl Work<'_> {
                 node,
             }),
             Err(fault) => Err(misfit_put_in(part, fault)),
+        }
+    }
+
+    // The same of a place under a hypothesis more, whose name is the last of the names. Its flaws are in the goal.
+    #[tactic(auto, using(pts_grow::proofs::Grow::keeping, pts_grow::proofs::Judgements::still, pts_reduce::proofs::Paid::later))]
+    pub(crate) fn sorted_named(
+        &mut self,
+        names: &[Name],
+        name: &Name,
+        under: Place,
+    ) -> Result<Sorted, ProveFault>
+        requires names { names.now ≡ self.old.names.now ++ name.now ∷ [] }
+        requires under { IsAsked self.old under }
+        ensures came { Came self.old self.new (λ s. s.sort.0) result (sorting_under self.old name.now under) }
+        ensures sorted { IfOk result (IsSorted self.new under.ctx under.statement) }
+        ensures grown { Grown self.old self.new }
+    {
+        match infer_sorted(
+            self.system,
+            self.front,
+            self.proof,
+            under.ctx,
+            names,
+            under.statement,
+            self.meter,
+        ) {
+            Ok(node) => {
+                let judged = judgement_of(self.proof, under.statement, node);
+                let sort = sort_at(self.proof, judged.claim);
+                Ok(Sorted { judged, sort })
+            }
+            Err(fault) => Err(put_in(Part::Goal, fault)),
         }
     }
 }

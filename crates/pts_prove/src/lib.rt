@@ -5,6 +5,8 @@
 #![tactic(auto)]
 
 mod by_abstraction;
+mod by_body;
+mod by_lemma;
 mod by_statement;
 mod by_term;
 mod calls;
@@ -14,9 +16,10 @@ mod fault;
 mod judging;
 mod opening;
 mod refining;
+mod replacing;
 mod scope;
 mod taking;
 mod work;
 
-pub use calls::{convert_goal, exact, intro};
+pub use calls::{convert_goal, cut, exact, intro, unfold};
 pub use fault::ProveFault;

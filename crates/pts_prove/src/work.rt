@@ -39,3 +39,12 @@ pub(crate) struct Opening {
     pub body: usize,
     pub change: Option<Compared>,
 }
+
+/// The parts of the product of a lemma and the goal: the lemma with its sort, the context in which it is assumed, and the
+/// goal with its sort there.
+#[derive(Clone, Copy, Debug, PartialEq, Eq)]
+pub(crate) struct LemmaParts {
+    pub lemma: Sorted,
+    pub inner: usize,
+    pub body: Sorted,
+}
