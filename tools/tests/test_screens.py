@@ -30,6 +30,15 @@ class Marked(unittest.TestCase):
                 caret = lines[1].index("^")
                 self.assertEqual(lines[0][caret], text[start])
 
+    def test_no_line_of_wide_letters_is_wider_than_the_screen(self):
+        text = "漢字 b " * 20
+        for width in (30, 44, 72):
+            for start in (*range(0, len(text), 3), len(text)):
+                lines = marked(text, start, start + 5, width)
+                self.assertLessEqual(max(map(columns, lines)), width)
+                below = [sign for place, sign in enumerate(lines[0]) if columns(lines[0][:place]) == lines[1].index("^")]
+                self.assertEqual(below[:1], list(text[start : start + 1]))
+
 
 class Batch(unittest.TestCase):
     def test_a_refusal_at_a_terminal(self):

@@ -7,7 +7,15 @@ from typing import Sequence
 
 from . import batch, compare, join, lint, listing
 
-COMMANDS = {"compare": compare.run, "explain": batch.run, "join": join.run, "lint": lint.run, "systems": listing.run}
+
+def prove(words: Sequence[str]) -> int:
+    """The prompt, of which the other commands need nothing."""
+    from yarrow_prompt.start import run  # pylint: disable=import-outside-toplevel
+
+    return run(words)
+
+
+COMMANDS = {"compare": compare.run, "explain": batch.run, "join": join.run, "lint": lint.run, "prove": prove, "systems": listing.run}
 NOT_WRITTEN = 5
 # Why standard output could not be written: nobody reads it, its file can't grow, its device fails.
 UNWRITTEN = (errno.EPIPE, errno.ENOSPC, errno.EFBIG, errno.EDQUOT, errno.EIO)

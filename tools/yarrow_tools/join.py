@@ -23,13 +23,14 @@ def without_comment(line: bytes) -> bytes:
     return line if place < 0 else line[:place] + b" " * (len(line) - place)
 
 
-def with_signs(text: str, greek: bool) -> str:
-    """The text with the signs of the program for those of mathematics."""
+def with_signs(text: str, greek: bool, padded: bool = True) -> str:
+    """The text with the signs of the program for those of mathematics; padded with blanks, so that each byte keeps its place."""
     made: List[str] = []
     before = " "
     for sign in text:
         inside = starts_identifier(before) or continues_identifier(before)
-        made.append(SIGNS.get(sign) or (LETTERS.get(sign) if greek and not inside else None) or sign)
+        written = SIGNS.get(sign) or (LETTERS.get(sign) if greek and not inside else None)
+        made.append((written if padded else written.rstrip()) if written else sign)
         before = " " if greek and sign in LETTERS and not inside else sign
     return "".join(made)
 

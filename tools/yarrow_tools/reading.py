@@ -1,10 +1,12 @@
 """What is wrong with a line that is refused for its tokens, its grammar or its names."""
 
 import difflib
+import heapq
+import os
 from typing import List, Optional, Sequence, Tuple
 
 from .notes import Note
-from .statements import FORMS
+from .statements import MODULE_FILE, Language
 from .tokens import Token, character_place, tokens
 
 WANTED = {
@@ -29,7 +31,6 @@ INSTEAD = {
     "→": "Write ->.",
     "⇒": "Write ->.",
     "□": "Write #.",
-    "%": "A comment is a line of its own; the command join takes comments after a declaration, too.",
     "'": "A name has letters, digits and _; a ' begins a sort.",
     "-": "A - is part of -> alone; a name has letters, digits and _.",
     "\xa0": "It is a blank of another kind (a no-break space).",
@@ -42,6 +43,8 @@ LETTERS = ("λ", "Π")
 AS_SIGN = {"λ": "λ is a letter here: write \\x:A. b.", "Π": "Π is a letter here: write @x:A. B."}
 HABITS = {**AS_SIGN, "fun": "Write \\x:A. b.", "forall": "Write @x:A. B."}
 TYPES = ("Prop", "Set", "Type")
+# So many names are looked at closely, which takes long.
+LIKELY = 50
 
 
 def token_from(found: Sequence[Token], place: int) -> Optional[Token]:
@@ -54,12 +57,13 @@ def stretch(text: str, place: int) -> Tuple[int, int]:
     return (place, token.end) if token else (place, place + 1)
 
 
-def bad_char(text: str, place: int) -> str:
+def bad_char(text: str, place: int, language: Language = MODULE_FILE) -> str:
     sign = text[place : place + 1]
     said = f"No token begins with '{sign}'."
     if text.startswith("=>", place):
         return f"{said} A function is \\x:A. b."
-    return f"{said} {INSTEAD[sign]}" if sign in INSTEAD else said
+    hint = language.comment if sign == "%" else INSTEAD.get(sign, "")
+    return f"{said} {hint}" if hint else said
 
 
 def open_parenthesis(found: Sequence[Token], place: int) -> Optional[int]:
@@ -81,16 +85,44 @@ def dotted_name(found: Sequence[Token], place: int, known: Sequence[str]) -> Opt
     return names[-1] if names else None
 
 
-def expected(text: str, place: int, wanted: str, known: Sequence[str]) -> Note:
+def form_hint(before: Sequence[Token], wanted: str, language: Language) -> str:
+    """The form of the line, where what was wanted is a part of it and not of a term."""
+    word = before[0].text if before else ""
+    of_the_form = wanted in ("Plain", "Colon", "Assign", "Number") and len(before) <= 2 or wanted in ("Term", "Name", "End") and len(before) == 1
+    return f"The form of the line is: {language.forms[word]}" if word in language.forms and (of_the_form or wanted == "Semicolon") else ""
+
+
+def hint_of(here: Optional[Token], before: Sequence[Token], wanted: str, language: Language) -> str:
+    """What may help where `here`, after the tokens before it, isn't what was wanted."""
+    if wanted in ("Plain", "Name") and here and here.kind in ("let", "in"):
+        return f"{here.text} is a word of the language, and no name."
+    if here and here.kind == "number" and wanted != "Number":
+        return "A number is no term: define it."
+    if here and here.kind in ("\\", "@", "let") and wanted not in ("Term", "Name"):
+        return "As an argument, what begins with \\, @ or let is in parentheses."
+    if wanted == "Colon" and here and here.kind == "name":
+        return "A binder has one name and its type, as in \\x:A. \\y:A. b."
+    if wanted == "Term" and not here and language.unfinished:
+        return language.unfinished
+    return form_hint(before, wanted, language)
+
+
+def wanted_words(wanted: str, before: Sequence[Token]) -> str:
+    """What must come, in words."""
+    if wanted == "Name" and before and before[-1].kind == "name":
+        return "a name must come"
+    return WANTED.get(wanted, wanted)
+
+
+def expected(text: str, place: int, wanted: str, known: Sequence[str], language: Language = MODULE_FILE) -> Note:
     """Of `Expected`: at this place, which counts characters, something else must come."""
     found = tokens(text)
     here = token_from(found, place)
     start, end = (place, here.end) if here else (place, place + 1)
-    said = f"{'Here' if here else 'The line ends, and here'} {WANTED.get(wanted, wanted)}"
-    hint = ""
+    before = [it for it in found if it.start < place]
+    said = f"{'Here' if here else 'The line ends, and here'} {wanted_words(wanted, before)}"
     dotted = dotted_name(found, place, known) if wanted == "Dot" else None
     opened = open_parenthesis(found, place) if wanted == "Close" else None
-    before = [it for it in found if it.start < place]
     if dotted:
         start, end = dotted.start, dotted.end
         parts = dotted.text.split(".")
@@ -102,23 +134,20 @@ def expected(text: str, place: int, wanted: str, known: Sequence[str]) -> Note:
     letter = next((it for it in before[-2:] if it.text.startswith(LETTERS)), None) if here and here.kind == ":" else None
     if letter:
         return Note(letter.start, letter.end, (AS_SIGN[letter.text[0]],))
-    if wanted in ("Plain", "Name") and here and here.kind in ("let", "in"):
-        hint = f"{here.text} is a word of the language, and no name."
-    elif here and here.kind == "number":
-        hint = "A number is no term: define it."
-    elif here and here.kind in ("\\", "@", "let") and wanted not in ("Term", "Name"):
-        hint = "As an argument, what begins with \\, @ or let is in parentheses."
-    elif wanted == "Colon" and here and here.kind == "name":
-        hint = "A binder has one name and its type, as in \\x:A. \\y:A. b."
-    elif wanted == "Term" and not here:
-        hint = "A declaration is one line; the command join makes one line of several."
-    elif wanted in ("Plain", "Colon", "Assign") and len(before) <= 2 and before[0].text in FORMS:
-        hint = f"The form of the line is: {FORMS[before[0].text]}"
+    hint = hint_of(here, before, wanted, language)
     return Note(start, end, (f"{said}.", hint) if hint else (f"{said}.",))
 
 
+def likeness(one: str, other: str) -> int:
+    """Roughly how alike two names are: the signs that they share at their starts and ends, less the others of the longer one."""
+    shared = len(os.path.commonprefix((one, other)))
+    shared += len(os.path.commonprefix((one[shared:][::-1], other[shared:][::-1])))
+    return 2 * shared - max(len(one), len(other))
+
+
 def near_names(name: str, known: Sequence[str]) -> List[str]:
-    near = difflib.get_close_matches(name, known, 2, 0.6)
+    likely = known if len(known) <= LIKELY else heapq.nlargest(LIKELY, known, key=lambda it: likeness(name, it))
+    near = difflib.get_close_matches(name, likely, 2, 0.6)
     return near + [it for it in known if it.rpartition(".")[2] == name and it not in near][:2]
 
 

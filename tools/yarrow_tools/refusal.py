@@ -36,9 +36,13 @@ def refusal(printed: str) -> Optional[Refusal]:
     module, rest = words[1], words[2:]
     if rest[0] not in OF_A_LINE or len(rest) < 2:
         return Refusal(module, None, rest[0], " ".join(rest[1:]))
-    line, said = int(rest[1]), " ".join(rest[2:])
+    return refusal_of_line(" ".join(rest[2:]) or rest[0], module, int(rest[1]))
+
+
+def refusal_of_line(said: str, module: str = "", line: Optional[int] = None) -> Refusal:
+    """What is refused of one line, such as `term 1.1 NoRule # *`."""
     flaw = re.fullmatch(PART, said)
     if flaw:
         return Refusal(module, line, flaw["kind"], flaw["values"], flaw["part"], flaw["path"])
     kind, _, values = said.partition(" ")
-    return Refusal(module, line, kind or rest[0], values)
+    return Refusal(module, line, kind, values)

@@ -2,7 +2,7 @@
 
 import os
 import unicodedata
-from typing import List, TextIO
+from typing import List, TextIO, Tuple
 
 INDENT = "  "
 NARROWEST = 20
@@ -14,18 +14,28 @@ def columns(text: str) -> int:
     return sum(0 if unicodedata.combining(it) else 2 if unicodedata.east_asian_width(it) in "WF" else 1 for it in text)
 
 
+def window(text: str, start: int, room: int) -> Tuple[int, int]:
+    """A stretch of the text that takes at most so many columns, and begins a quarter of them before this place, or earlier
+    where the text ends."""
+    first = start
+    while first > 0 and columns(text[first - 1 : start]) <= room // 4:
+        first -= 1
+    while first > 0 and columns(text[first - 1 :]) <= room:
+        first -= 1
+    last = first
+    while last < len(text) and columns(text[first : last + 1]) <= room:
+        last += 1
+    return first, last
+
+
 def marked(text: str, start: int, end: int, width: int) -> List[str]:
     """The line with carets below the characters from `start` to before `end`. Of a line that is too wide a stretch is shown
     which begins a quarter of the width before the place."""
     room = max(NARROWEST, width) - len(INDENT)
     text = "".join(" " if it == "\t" or not it.isprintable() else it for it in text)
     end = max(end, start + 1)
-    if columns(text) > room:
-        most = room - 4
-        first = max(0, min(start - room // 4, len(text) - most))
-        last = first + most
-        while last > start and columns(text[first:last]) > most:
-            last -= 1
+    if columns(text) + (start >= len(text)) > room:
+        first, last = window(text, start, room - 4)
         before, after = ".." if first else "", ".." if last < len(text) else ""
         start, end = start - first + len(before), min(end, last) - first + len(before)
         text = before + text[first:last] + after

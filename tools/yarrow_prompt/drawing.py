@@ -1,0 +1,128 @@
+"""What is shown: lines that fit the screen, colours where they are wanted, and the transcript."""
+
+import os
+import re
+from typing import Dict, List, Mapping, Optional, TextIO, Tuple
+
+from yarrow_tools.screen import INDENT, columns, marked, width_of
+
+# A reply with more characters is cut.
+MOST = 20_000
+COLOURS = {"caret": "31", "quiet": "2", "head": "1"}
+SIGNS: Dict[str, str] = {"->": "→", "\\": "λ", "@": "Π", "#": "□"}
+# Where a term is best folded: after an arrow, a dot or a sign of definition.
+FOLDS = re.compile(r"(?<=->) |(?<=→) |(?<=\.) |(?<=:=) ")
+WORDS = re.compile(" ")
+
+
+class NotWritten(BrokenPipeError):
+    """Standard output could not be written."""
+
+
+def cut(word: str, room: int) -> List[str]:
+    """The word in pieces of at most so many columns."""
+    pieces, piece = [], ""
+    for sign in word:
+        if piece and columns(piece + sign) > room:
+            pieces.append(piece)
+            piece = ""
+        piece += sign
+    return [*pieces, piece]
+
+
+def pieces_of(text: str, room: int, at: re.Pattern) -> List[str]:
+    """The text in pieces of at most so many columns, each of which may begin a line."""
+    found: List[str] = []
+    for part in at.split(text):
+        words = [part] if columns(part) <= room else part.split(" ")
+        for word in words:
+            found += [word] if columns(word) <= room else cut(word, room)
+    return found
+
+
+def folded(head: str, text: str, indent: int, width: int, at: re.Pattern = FOLDS) -> List[str]:
+    """The text after its head, in lines that are no wider than the screen; those after the first have so many blanks before."""
+    indent = min(indent, width // 2)
+    lines, line, empty = [], head, True
+    if columns(head) + 1 > width // 2 and columns(head + text) > width:
+        lines, line = cut(head.rstrip(), width), " " * indent
+    for piece in pieces_of(text, width - max(indent, columns(line)), at):
+        if not empty and columns(line) + 1 + columns(piece) > width:
+            lines.append(line)
+            line, empty = " " * indent, True
+        line += piece if empty else f" {piece}"
+        empty = False
+    return [*lines, line]
+
+
+class Screen:
+    """Where lines are written: a terminal, or a stream that isn't one. A transcript gets them without colours."""
+
+    def __init__(self, out: TextIO, environment: Mapping[str, str] = os.environ):
+        self.out = out
+        self.terminal = out.isatty()
+        self.dumb = environment.get("TERM", "dumb") == "dumb"
+        self.colour = self.terminal and not self.dumb and not environment.get("NO_COLOR")
+        self.signs = "utf" in (out.encoding or "").lower().replace("-", "")
+        self.unicode = self.raw = self.waiting = False
+        self.transcript: Optional[TextIO] = None
+
+    def width(self) -> int:
+        return width_of(self.out)
+
+    def write(self, text: str) -> None:
+        try:
+            self.out.write(text)
+            self.out.flush()
+        except OSError as fault:
+            raise NotWritten from fault
+
+    def put(self, line: str, style: str = "") -> None:
+        """Shows a line, which is no wider than the screen already."""
+        self.end_wait()
+        self.write((f"\x1b[{COLOURS[style]}m{line}\x1b[0m" if self.colour and style else line) + "\n")
+        self.note(line)
+
+    def note(self, line: str) -> None:
+        """Writes a line to the transcript alone: the terminal has shown it."""
+        if self.transcript:
+            self.transcript.write(line + "\n")
+            self.transcript.flush()
+
+    def wait(self) -> None:
+        """Says once that the program works, where a person waits for it."""
+        if self.terminal and not self.waiting:
+            self.waiting = True
+            self.write("computing, Ctrl-C stops .." + ("\n" if self.dumb else ""))
+
+    def end_wait(self) -> None:
+        if self.waiting:
+            self.waiting = False
+            self.write("" if self.dumb else "\r\x1b[K")
+
+    def term(self, head: str, text: str, indent: int = 4) -> None:
+        """Shows a term, or a line with terms in it, after its head."""
+        size = len(text)
+        if size > MOST:
+            text = f"{text[:MOST]} .. ({size:,} characters)"
+        if self.unicode and self.signs:
+            for sign, shown in SIGNS.items():
+                text = text.replace(sign, shown)
+        for line in folded(head, text, indent, self.width()):
+            self.put(line)
+
+    def say(self, *sentences: str, head: str = INDENT) -> None:
+        """Shows sentences, each from a new line on, a little to the right."""
+        for said in sentences:
+            for line in folded(head, said, len(head), self.width(), WORDS):
+                self.put(line)
+
+    def tell(self, sentence: str) -> None:
+        """Shows what the prompt has done, or asks to be known."""
+        self.say(sentence, head="")
+
+    def mark(self, line: str, stretch: Tuple[int, int]) -> None:
+        """Shows a line with carets below a stretch of it."""
+        shown, carets = marked(line, *stretch, self.width())
+        self.put(shown)
+        self.put(carets, "caret")

@@ -1,0 +1,42 @@
+"""Ctrl-C, which is heard only where a person may stop something, so that it never comes between a reply and its note."""
+
+import contextlib
+import signal
+from types import FrameType
+from typing import Iterator, Optional
+
+
+class Interrupts:
+    """Whether Ctrl-C is heard now. One that comes elsewhere waits for the next place where it is."""
+
+    def __init__(self) -> None:
+        self.is_heard = self.is_pending = False
+
+    def install(self) -> None:
+        signal.signal(signal.SIGINT, self.handle)
+
+    def handle(self, _number: int, _frame: Optional[FrameType]) -> None:
+        if self.is_heard:
+            raise KeyboardInterrupt
+        self.is_pending = True
+
+    @contextlib.contextmanager
+    def heard(self) -> Iterator[None]:
+        if self.is_pending:
+            self.is_pending = False
+            raise KeyboardInterrupt
+        self.is_heard = True
+        try:
+            yield
+        finally:
+            self.is_heard = False
+
+
+def leave_at_hangup() -> None:
+    """Lets a hangup end the prompt as any other end does, so that the lines are kept."""
+
+    def leave(number: int, _frame: Optional[FrameType]) -> None:
+        raise SystemExit(128 + number)
+
+    signal.signal(signal.SIGHUP, leave)
+    signal.signal(signal.SIGTERM, leave)

@@ -1,0 +1,156 @@
+"""A person at a terminal: lines are typed with a history, completed, pasted, and may go on."""
+
+import os
+import sys
+from typing import List, Optional
+
+from . import completion
+from .own import Leave, saved_text
+from .prompt import Prompt
+from .typed import is_open, whole_lines
+
+try:
+    import readline
+except ImportError:  # (then a line is typed as the terminal takes it)
+    readline = None  # type: ignore[assignment]
+
+LINES_OF_HISTORY = 2_000
+
+
+def state_folder() -> str:
+    base = os.environ.get("XDG_STATE_HOME") or os.path.join(os.path.expanduser("~"), ".local", "state")
+    return os.path.join(base, "yarrow")
+
+
+class History:
+    """The lines that were typed, in a file for its owner alone."""
+
+    def __init__(self) -> None:
+        self.path = os.path.join(state_folder(), "history")
+
+    def load(self) -> None:
+        if readline is None:
+            return
+        readline.set_auto_history(False)
+        readline.set_history_length(LINES_OF_HISTORY)
+        try:
+            os.makedirs(os.path.dirname(self.path), mode=0o700, exist_ok=True)
+            readline.read_history_file(self.path)
+        except OSError:
+            pass
+
+    def add(self, line: str) -> None:
+        if readline is not None and line.strip():
+            readline.add_history(line)
+
+    def store(self) -> None:
+        if readline is None:
+            return
+        try:
+            os.close(os.open(self.path, os.O_CREAT | os.O_WRONLY, 0o600))
+            readline.write_history_file(self.path)
+        except OSError:
+            pass
+
+
+class Terminal:
+    """Reads lines from a person until they leave."""
+
+    def __init__(self, prompt: Prompt):
+        self.prompt, self.history = prompt, History()
+        self.is_warned = False
+        self.offered: List[str] = []
+
+    def prepare(self) -> None:
+        self.history.load()
+        if readline is not None:
+            readline.set_completer_delims(completion.DELIMITERS)
+            readline.set_completer(self.complete)
+            readline.parse_and_bind("tab: complete")
+            readline.parse_and_bind("set enable-bracketed-paste on")
+
+    def complete(self, begun: str, place: int) -> Optional[str]:
+        """The offer at this place, for readline, which asks for one after another."""
+        if place == 0:
+            before = readline.get_line_buffer()[: readline.get_begidx()]
+            self.offered = completion.ended(completion.offers(self.prompt, before, begun))
+        return self.offered[place] if place < len(self.offered) else None
+
+    def lines(self) -> List[str]:
+        """The lines that are typed next: one, which may go on, or those of a paste."""
+        text = input(self.prompt.text)
+        while True:
+            found = [line for _, line in whole_lines(text.split("\n"))]
+            if not found or not is_open(found[-1]):
+                return found
+            try:
+                more = input("." * (len(self.prompt.text) - 1) + " ").strip()
+            except EOFError:
+                more = ""
+            if not more:
+                return found
+            text += "\n " + "\n ".join(more.split("\n"))
+
+    def take(self, lines: List[str]) -> None:
+        """Takes lines up to the first that is not taken."""
+        for line in lines:
+            self.history.add(line)
+            if len(lines) > 1:
+                self.prompt.echo(line)
+            else:
+                self.prompt.screen.note(self.prompt.text + line)
+            if not self.prompt.take(line):
+                break
+
+    def may_leave(self) -> bool:
+        """Whether nothing would be lost, or the person knows that it is."""
+        if self.is_warned or not self.prompt.session.has_work:
+            return True
+        self.is_warned = True
+        self.prompt.screen.tell("The lines are not saved: save FILE keeps them. Ctrl-D once more leaves.")
+        return False
+
+    def talk(self) -> None:
+        """Takes lines until the person leaves."""
+        while True:
+            try:
+                with self.prompt.interrupts.heard():
+                    lines = self.lines()
+                if lines:
+                    self.take(lines)
+                    self.is_warned = False
+            except KeyboardInterrupt:
+                self.prompt.screen.put("")
+            except EOFError:
+                self.prompt.screen.put("")
+                if self.may_leave():
+                    return
+            except Leave:
+                if self.may_leave():
+                    return
+
+    def keep_last(self) -> None:
+        """Writes lines that are not saved to a file of their own, whatever ended the prompt."""
+        if not self.prompt.session.has_work:
+            return
+        path = os.path.join(state_folder(), "last.prove")
+        try:
+            with open(os.open(path, os.O_CREAT | os.O_WRONLY | os.O_TRUNC, 0o600), "w", encoding="utf-8") as file:
+                file.write(saved_text(self.prompt))
+            print(f"The lines are in {path}.", flush=True)
+        except OSError:
+            pass
+
+
+def at_terminal(prompt: Prompt) -> int:
+    terminal = Terminal(prompt)
+    sys.stdin.reconfigure(errors="surrogateescape")  # type: ignore[union-attr]
+    terminal.prepare()
+    prompt.interrupts.install()
+    prompt.screen.tell(f"Yarrow, in the system {prompt.system}. The command help lists all, Ctrl-D leaves.")
+    try:
+        terminal.talk()
+    finally:
+        terminal.history.store()
+        terminal.keep_last()
+    return 0
