@@ -60,12 +60,12 @@ class Screens(unittest.TestCase):
 
     def test_waiting_is_said_once_and_wiped_away(self):
         screen = Screen(Tty(), {"TERM": "xterm"})
-        screen.wait()
-        screen.wait()
+        screen.wait(True)
+        screen.wait(True)
         screen.put("a")
         self.assertEqual(screen.out.getvalue(), "computing, Ctrl-C stops ..\r\x1b[Ka\n")
         quiet = Screen(io.StringIO(), {"TERM": "xterm"})
-        quiet.wait()
+        quiet.wait(True)
         self.assertEqual(quiet.out.getvalue(), "")
 
     def test_what_can_t_be_written(self):

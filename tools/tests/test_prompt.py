@@ -53,7 +53,8 @@ class Lines(Work):
     def test_replies_in_words(self):
         self.assertEqual(self.shown("assume A : *", "commit", "commit", "discard"), ["assumed A : *", "committed 1 declaration", "committed 0 declarations", "discarded 0 declarations"])
         self.assertEqual(self.shown("equal A ; B"), ["no: their weak head normal forms differ first at the part 1.0"])
-        self.assertEqual(self.shown("infer committed"), ["committed : T"])
+        self.assertEqual(self.shown("infer committed", "infer assumed B"), ["committed : T", "assumed B : T"])
+        self.assertEqual(list(self.prompt.session.names), ["A"])
 
     def test_a_refusal_is_shown_with_its_place(self):
         wanted = ["  infer a b", "        ^", "  a is no binder and no declaration."]

@@ -37,6 +37,7 @@ CASES = [
     ("commit", "NothingToCommit", None, "The draft is empty."),
     ("infer a", "Spent", None, "The budget of the line is used up. More is given by budget N, up to 10000000."),
     ("infer a", "Surprise 1", None, "refused Surprise 1"),
+    ("infer refused BadChar a", "BadChar a : *", None, "refused BadChar a : *"),
     ("infer f (g a)", "term 1.0 NotProduct A", "g", "This is applied to an argument, and is no function: it has the type A."),
     ("define a : f b := c", "type 0 NotASort A", "f", "This is used as a type, and is none: A is no sort."),
     ("define a : A := c", "term - NotConvertible - B ; A", "c", "This has the type B, and should have the type A."),

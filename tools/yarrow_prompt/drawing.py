@@ -89,11 +89,11 @@ class Screen:
             self.transcript.write(line + "\n")
             self.transcript.flush()
 
-    def wait(self) -> None:
-        """Says once that the program works, where a person waits for it."""
+    def wait(self, can_stop: bool) -> None:
+        """Says once that the program works, where a person waits for it, who may stop it or not."""
         if self.terminal and not self.waiting:
             self.waiting = True
-            self.write("computing, Ctrl-C stops .." + ("\n" if self.dumb else ""))
+            self.write(f"computing{', Ctrl-C stops' if can_stop else ''} ..{chr(10) if self.dumb else ''}")
 
     def end_wait(self) -> None:
         if self.waiting:

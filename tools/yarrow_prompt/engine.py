@@ -32,8 +32,10 @@ class Ended(Exception):
 class Engine:
     """A child that runs in a session of its own, so that Ctrl-C reaches the prompt alone."""
 
-    def __init__(self, words: Sequence[str], waiting: Optional[Callable[[], None]] = None):
-        self.words, self.waiting = list(words), waiting
+    def __init__(self, words: Sequence[str]):
+        self.words = list(words)
+        # (what is called while a round takes long)
+        self.waiting: Optional[Callable[[], None]] = None
         self.child: Optional[subprocess.Popen] = None
         self.unread = b""
 

@@ -6,6 +6,8 @@ from yarrow_tools.source import MODULE
 from yarrow_tools.terms import Parser
 from yarrow_tools.tokens import KEYWORDS, identifier_end, tokens
 
+from .table import TABLE
+
 if TYPE_CHECKING:
     from .prompt import Prompt
 
@@ -37,8 +39,10 @@ def module_text(module: str, lines: Sequence[str]) -> str:
 def export(prompt: "Prompt", rest: str) -> None:
     module = rest[: -len(MODULE)] if rest.endswith(MODULE) else rest
     why = unfit(module)
+    if not rest:
+        prompt.refuse(f"The form of the line is: {TABLE['export'].form}")
     if why:
-        prompt.refuse(f"The form of the line is: export M, where M is the name of the module, and {why}." if not rest else f"{module} can't be the name of a module: {why}.")
+        prompt.refuse(f"{module} can't be the name of a module: {why}.")
     names = list(prompt.session.names)
     for name in names:
         why = unfit(name)

@@ -5,6 +5,8 @@ import signal
 from types import FrameType
 from typing import Iterator, Optional
 
+ENDS = (signal.SIGHUP, signal.SIGTERM)
+
 
 class Interrupts:
     """Whether Ctrl-C is heard now. One that comes elsewhere waits for the next place where it is."""
@@ -33,10 +35,12 @@ class Interrupts:
 
 
 def leave_at_hangup() -> None:
-    """Lets a hangup end the prompt as any other end does, so that the lines are kept."""
+    """Lets a hangup end the prompt as any other end does, so that the lines are kept. It may come twice."""
 
     def leave(number: int, _frame: Optional[FrameType]) -> None:
+        for it in ENDS:
+            signal.signal(it, signal.SIG_IGN)
         raise SystemExit(128 + number)
 
-    signal.signal(signal.SIGHUP, leave)
-    signal.signal(signal.SIGTERM, leave)
+    for it in ENDS:
+        signal.signal(it, leave)

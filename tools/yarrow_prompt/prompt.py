@@ -72,7 +72,7 @@ class Prompt:
         command = command_of(line)
         if command and KEPT in command.flags:
             self.session.keep(line)
-        self.session.learn(answered)
+            self.session.learn(answered)
         replies.show(self.screen, first_word(line), answered)
 
     def explain(self, line: str, refused: str) -> NoReturn:
@@ -111,8 +111,9 @@ class Prompt:
         return answered
 
     def revive(self, why: str) -> NoReturn:
-        """Starts the program anew, with the lines that were taken."""
+        """Starts the program anew, with the lines that were taken, which Ctrl-C doesn't stop again."""
         kept = self.session.kept
+        self.screen.end_wait()
         try:
             refused = self.session.again()
         except Ended:

@@ -37,8 +37,9 @@ def run(words: Sequence[str]) -> int:
     sys.stdout.reconfigure(errors="backslashreplace")  # type: ignore[union-attr]
     screen = Screen(sys.stdout)
     path = spec_path(words[0])
-    engine = Engine([program(), "replay", path], screen.wait)
+    engine = Engine([program(), "replay", path])
     prompt = Prompt(words[0], path, Session(engine), screen, sys.stdin.isatty())
+    engine.waiting = lambda: screen.wait(prompt.interrupts.is_heard)
     leave_at_hangup()
     try:
         status = begun(prompt.session, screen, words[0])

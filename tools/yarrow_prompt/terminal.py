@@ -67,7 +67,7 @@ class Terminal:
             readline.set_completer_delims(completion.DELIMITERS)
             readline.set_completer(self.complete)
             readline.parse_and_bind("tab: complete")
-            readline.parse_and_bind("set enable-bracketed-paste on")
+            readline.parse_and_bind(f"set enable-bracketed-paste {'off' if self.prompt.screen.dumb else 'on'}")
 
     def complete(self, begun: str, place: int) -> Optional[str]:
         """The offer at this place, for readline, which asks for one after another."""

@@ -15,7 +15,9 @@ from yarrow_tools.tokens import tokens
 from .table import ROWS, TABLE, first_word
 
 SESSION = Language({it.word: it.form for it in ROWS})
-READING = ("BadChar", "LongName", "Expected", "TooDeep", "UnknownName", "UnknownSort")
+# The refusals that have a place, and those that have another word after it.
+PLACED = ("BadChar", "LongName", "TooDeep")
+PLACED_WITH = ("Expected", "UnknownName", "UnknownSort")
 # What other provers call it.
 OTHERS = {
     **dict.fromkeys(("check", "type"), "infer"),
@@ -139,10 +141,16 @@ def name_in(line: str, name: str) -> Optional[Tuple[int, int]]:
     return next(((it.start, it.end) for it in tokens(line)[1:] if it.text == name), None)
 
 
+def has_place(refused: Refusal) -> bool:
+    """Whether the refusal is one of tokens, grammar or names, which have a place."""
+    count = len(refused.words)
+    return (refused.kind in PLACED and count == 1 or refused.kind in PLACED_WITH and count == 2) and refused.words[0].isdigit()
+
+
 def explained(line: str, said: str, known: Sequence[str], ask: Ask) -> Explained:
     """What is said of a line that the program refused with these words."""
     refused = refusal_of_line(said)
-    if refused.kind in READING:
+    if has_place(refused):
         return of_reading(line, refused, known)
     if refused.part:
         return of_a_flaw(line, refused, ask)

@@ -1,0 +1,32 @@
+import os
+import signal
+import unittest
+
+from yarrow_prompt.interrupts import Interrupts
+
+
+class Heard(unittest.TestCase):
+    def setUp(self):
+        self.addCleanup(signal.signal, signal.SIGINT, signal.getsignal(signal.SIGINT))
+        self.interrupts = Interrupts()
+        self.interrupts.install()
+
+    def press(self):
+        os.kill(os.getpid(), signal.SIGINT)
+
+    def test_where_it_is_heard_it_comes_at_once(self):
+        with self.assertRaises(KeyboardInterrupt), self.interrupts.heard():
+            self.press()
+        with self.interrupts.heard():
+            pass
+
+    def test_elsewhere_it_waits(self):
+        self.press()
+        with self.assertRaises(KeyboardInterrupt), self.interrupts.heard():
+            self.fail("this is not reached")
+        with self.interrupts.heard():
+            pass
+
+
+if __name__ == "__main__":
+    unittest.main()
