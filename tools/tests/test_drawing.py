@@ -22,7 +22,9 @@ class Folded(unittest.TestCase):
 
     def test_what_has_no_such_place_at_blanks_and_then_anywhere(self):
         self.assertEqual(folded("", "f " + "a " * 20 + "b", 4, 24)[0], "f a a a a a a a a a a a")
-        self.assertEqual(folded("x : ", "a" * 50, 4, 30), ["x : " + "a" * 26, "    " + "a" * 24])
+        self.assertEqual(folded("x : ", "a" * 50, 4, 30), ["x :", "    " + "a" * 26, "    " + "a" * 24])
+        self.assertEqual(folded("a long head : ", "a" * 60 + " b", 4, 30), ["a long head :", "    " + "a" * 26, "    " + "a" * 26, "    " + "a" * 8 + " b"])
+        self.assertEqual(folded("  ", "a" * 40, 2, 30), ["  " + "a" * 28, "  " + "a" * 12])
 
     def test_no_line_is_wider_than_the_screen(self):
         for text in (TERM, "漢字 " * 30, "漢" * 90, "a" * 200, TERM * 5):

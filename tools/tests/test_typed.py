@@ -31,6 +31,10 @@ class Typed(unittest.TestCase):
         self.assertEqual(list(whole_lines(["  infer d", "infer e"])), [(1, "infer d"), (2, "infer e")])
         self.assertEqual(list(whole_lines([])), [])
 
+    def test_typed_lines_go_on_while_they_can_t_be_whole(self):
+        lines = ["define a := (b", "c)", "infer d ->", "% nothing", "e", "infer (", "", " f", "quit"]
+        self.assertEqual([it for _, it in whole_lines(lines, typed=True)], ["define a := (b c)", "infer d -> e", "infer (", "f", "quit"])
+
     def test_what_can_t_be_sent(self):
         self.assertIsNone(unsendable("a" * 65_533))
         self.assertEqual(unsendable("é" * 32_767), "The line has 65,534 bytes, and at most 65,533 are read.")

@@ -19,39 +19,40 @@ class NotWritten(BrokenPipeError):
     """Standard output could not be written."""
 
 
-def cut(word: str, room: int) -> List[str]:
-    """The word in pieces of at most so many columns."""
-    pieces, piece = [], ""
-    for sign in word:
-        if piece and columns(piece + sign) > room:
-            pieces.append(piece)
-            piece = ""
-        piece += sign
-    return [*pieces, piece]
+def fitting(text: str, width: int) -> str:
+    """As much of the start of a text as takes at most so many columns."""
+    taken = 0
+    for place, sign in enumerate(text):
+        taken += columns(sign)
+        if taken > width:
+            return text[:place]
+    return text
+
+
+def last_of(lines: List[str], line: str, indent: int, width: int) -> str:
+    """What is left of a line once as many lines as it fills are put to the others."""
+    while columns(line) > width:
+        lines.append(fitting(line, width))
+        line = " " * indent + line[len(lines[-1]) :]
+    return line
 
 
 def pieces_of(text: str, room: int, at: re.Pattern) -> List[str]:
-    """The text in pieces of at most so many columns, each of which may begin a line."""
-    found: List[str] = []
-    for part in at.split(text):
-        words = [part] if columns(part) <= room else part.split(" ")
-        for word in words:
-            found += [word] if columns(word) <= room else cut(word, room)
-    return found
+    """The text in pieces, each of which may begin a line; where one takes more columns than there is room, its words are."""
+    return [word for part in at.split(text) for word in ([part] if columns(part) <= room else part.split(" "))]
 
 
 def folded(head: str, text: str, indent: int, width: int, at: re.Pattern = FOLDS) -> List[str]:
     """The text after its head, in lines that are no wider than the screen; those after the first have so many blanks before."""
     indent = min(indent, width // 2)
-    lines, line, empty = [], head, True
-    if columns(head) + 1 > width // 2 and columns(head + text) > width:
-        lines, line = cut(head.rstrip(), width), " " * indent
-    for piece in pieces_of(text, width - max(indent, columns(line)), at):
-        if not empty and columns(line) + 1 + columns(piece) > width:
-            lines.append(line)
-            line, empty = " " * indent, True
-        line += piece if empty else f" {piece}"
-        empty = False
+    lines: List[str] = []
+    line, begins = last_of(lines, head, indent, width), True
+    for piece in pieces_of(text, width - indent, at):
+        if line.strip() and columns(line) + (not begins) + columns(piece) > width:
+            lines.append(line.rstrip())
+            line, begins = " " * indent, True
+        line = last_of(lines, line + ("" if begins else " ") + piece, indent, width)
+        begins = False
     return [*lines, line]
 
 

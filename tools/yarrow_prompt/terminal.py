@@ -80,16 +80,16 @@ class Terminal:
         """The lines that are typed next: one, which may go on, or those of a paste."""
         text = input(self.prompt.text)
         while True:
-            found = [line for _, line in whole_lines(text.split("\n"))]
+            found = [line for _, line in whole_lines(text.split("\n"), typed=True)]
             if not found or not is_open(found[-1]):
                 return found
             try:
-                more = input("." * (len(self.prompt.text) - 1) + " ").strip()
+                more = input("." * (len(self.prompt.text) - 1) + " ")
             except EOFError:
                 more = ""
-            if not more:
+            if not more.strip():
                 return found
-            text += "\n " + "\n ".join(more.split("\n"))
+            text += "\n" + more
 
     def take(self, lines: List[str]) -> None:
         """Takes lines up to the first that is not taken."""

@@ -53,14 +53,15 @@ def without_comment(line: str) -> str:
     return line if is_own(line) else line.partition("%")[0]
 
 
-def whole_lines(lines: Iterable[str]) -> Iterator[Tuple[int, str]]:
-    """The lines of a script that have something in them, each with its number from 1; lines that go on are joined."""
+def whole_lines(lines: Iterable[str], typed: bool = False) -> Iterator[Tuple[int, str]]:
+    """The lines that have something in them, each with its number from 1; lines that go on are joined. Where they were typed,
+    one goes on also if it can't be whole, unless an empty line comes after it."""
     number, held = 0, ""
     for place, line in enumerate(lines, 1):
         line = line.rstrip("\r\n")
-        if held and goes_on(line):
+        if held and (goes_on(line) or typed and read(line) != "" and is_open(held)):
             held = f"{without_comment(held).rstrip(BLANKS)} {line.strip(BLANKS)}"
-        elif read(line) != "":
+        elif read(line) != "" or typed and line.strip(BLANKS) == "":
             if held:
                 yield number, held
             number, held = place, line.strip(BLANKS)
