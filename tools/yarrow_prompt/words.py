@@ -5,7 +5,7 @@ from typing import Callable, List, NamedTuple, Optional, Sequence, Tuple
 
 from yarrow_tools import reading
 from yarrow_tools.beta import without_redexes
-from yarrow_tools.flaws import flaw_sentences, parts_that_differ, stretch, under_binders
+from yarrow_tools.flaws import Names, Said, bound_in, defined_in, flaw_sentences, parts_that_differ, role, stem, stretch, under_binders
 from yarrow_tools.refusal import Refusal, refusal_of_line
 from yarrow_tools.specs import systems_with
 from yarrow_tools.statements import Language
@@ -35,7 +35,7 @@ OF_THE_LINE = {
     "NotBuilt": "Lines of this kind are not built yet.",
     "NothingToCommit": "The draft is empty.",
     "Spent": "The budget of the line is used up. More is given by budget N, up to 10000000.",
-    "Deep": "A term on the way is deeper than 2,000 or larger than 1,000,000, or inference nests too deep.",
+    "Deep": "A term on the way is deeper than 2,000 or larger than 1,000,000, or inference or a comparison nests too deep.",
     "ContextFull": "With the draft the context would have more than 200,000 entries.",
 }
 OF_A_NAME = {
@@ -111,12 +111,25 @@ def of_reading(line: str, refused: Refusal, known: Sequence[str]) -> Explained:
     return Explained(found, said)
 
 
-def computed(refused: Refusal, ask: Ask) -> Tuple[str, ...]:
+def names_in_session(term: Optional[Tree], known: Sequence[str], ask: Ask) -> Names:
+    """The names of a session, for a flaw of this term: what takes no step is a binder's name, and that of an assumption."""
+    bound = bound_in(term) - defined_in(term)
+
+    def is_fixed(name: str) -> bool:
+        if name not in known:
+            return stem(name) in bound
+        shown = ask(f"show {name}")
+        return shown is not None and " := " not in shown
+
+    return Names(str, is_fixed)
+
+
+def computed(refused: Refusal, names: Names, ask: Ask) -> Tuple[str, ...]:
     """What two types that aren't convertible come to, where it can't be seen where they differ."""
     path, _, types = refused.values.partition(" ")
     have, _, want = types.partition(" ; ")
     found = under_binders(have, want, path)
-    is_seen = found.under or path == "-" or parts_that_differ(have, want, path)
+    is_seen = found.under or path == "-" or parts_that_differ(have, want, path, names)
     if is_seen or (without_redexes(have), without_redexes(want)) != (have, want):
         return ()
     reduced = [ask(f"reduce {it}") for it in (have, want)]
@@ -125,14 +138,15 @@ def computed(refused: Refusal, ask: Ask) -> Tuple[str, ...]:
     return (f"Computed: {reduced[0]}", f"against: {reduced[1]}")
 
 
-def of_a_flaw(line: str, refused: Refusal, ask: Ask) -> Explained:
+def of_a_flaw(line: str, refused: Refusal, known: Sequence[str], ask: Ask) -> Explained:
     """Of a flaw, which has a part of the line and a path in it."""
     term = term_of(line, refused.part)
     found = stretch(term, refused.path)
     what = "This" if found else f"The part {refused.path} of the {refused.part}"
-    said = flaw_sentences(what, refused.kind, refused.values, systems_with)
+    names = names_in_session(term, known, ask)
+    said = flaw_sentences(Said(what, refused.kind, refused.values, role(term, refused.path)), names, systems_with)
     if refused.kind == "NotConvertible":
-        said += computed(refused, ask)
+        said += computed(refused, names, ask)
     return Explained(found or stretch(term, "-"), said)
 
 
@@ -153,7 +167,7 @@ def explained(line: str, said: str, known: Sequence[str], ask: Ask) -> Explained
     if has_place(refused):
         return of_reading(line, refused, known)
     if refused.part:
-        return of_a_flaw(line, refused, ask)
+        return of_a_flaw(line, refused, known, ask)
     if refused.kind in OF_A_NAME and refused.words:
         return Explained(name_in(line, refused.words[0]), (OF_A_NAME[refused.kind].format(*refused.words),))
     sentences: List[str] = [OF_THE_LINE.get(refused.kind, f"refused {said}")]

@@ -26,31 +26,43 @@ def stem(name: str) -> str:
     return name.rstrip("0123456789")
 
 
-def defined_in(tree: Optional[Tree]) -> FrozenSet[str]:
-    """The stems of the names that a term defines locally."""
+def stems(tree: Optional[Tree], kinds: Sequence[str]) -> FrozenSet[str]:
+    """The stems of the names that parts of these kinds have in a term."""
     if not tree:
         return frozenset()
-    own = {stem(tree.text)} if tree.kind == "let" else set()
-    return frozenset(own.union(*map(defined_in, tree.parts)))
+    own = {stem(tree.text)} if tree.kind in kinds else set()
+    return frozenset(own.union(*(stems(it, kinds) for it in tree.parts)))
+
+
+def defined_in(tree: Optional[Tree]) -> FrozenSet[str]:
+    """The stems of the names that a term defines locally."""
+    return stems(tree, ("let",))
+
+
+def bound_in(tree: Optional[Tree]) -> FrozenSet[str]:
+    """The stems of the names that functions and products bind in a term."""
+    return stems(tree, ("\\", "@"))
 
 
 class Names(NamedTuple):
-    """The module of a refusal, what it assumes, by short names, and the stems of what the term defines locally."""
+    """How the names in printed types are written here, and which of them take no step."""
 
-    module: str
-    assumed: FrozenSet[str]
-    defined: FrozenSet[str]
+    short: Callable[[str], str]
+    is_fixed: Callable[[str], bool]
 
-    def short(self, text: str) -> str:
-        """The text as it is written inside of the module."""
-        return without_module(text, self.module)
 
-    def is_fixed(self, name: str) -> bool:
-        """Whether a name in a printed type takes no step: it is that of a binder, which has no dot, or of an assumption."""
+def names_in_module(module: str, assumed: FrozenSet[str], term: Optional[Tree]) -> Names:
+    """The names of a module that assumes these, for a flaw of this term. What takes no step is a binder's name, which has no dot,
+    and an assumption's."""
+    defined = defined_in(term)
+
+    def is_fixed(name: str) -> bool:
         label, dot, last = name.rpartition(".")
         if not dot:
-            return stem(name) not in self.defined
-        return label in ("_", self.module) and last in self.assumed
+            return stem(name) not in defined
+        return label in ("_", module) and last in assumed
+
+    return Names(lambda text: without_module(text, module), is_fixed)
 
 
 class Difference(NamedTuple):

@@ -3,7 +3,7 @@
 from typing import NamedTuple, Optional
 
 from . import forms, reading
-from .flaws import Names, Said, defined_in, flaw_sentences, role, stretch, without_module
+from .flaws import Said, flaw_sentences, names_in_module, role, stretch, without_module
 from .notes import Note
 from .refusal import Refusal
 from .source import Source
@@ -69,7 +69,7 @@ def of_a_flaw(source: Source, line: int, refused: Refusal) -> Note:
     what = "This" if found else f"The part {refused.path} of the {refused.part}"
     start, end = found or stretch(term, "-") or forms.stretch(source.line(line))
     said = Said(what, refused.kind, refused.values, role(term, refused.path))
-    names = Names(source.module, source.assumed(), defined_in(term))
+    names = names_in_module(source.module, source.assumed(), term)
     return Note(start, end, flaw_sentences(said, names, systems_with))
 
 
