@@ -45,16 +45,16 @@ fn moves_to(alloc: Global, core: &Core, draft: &mut Draft, wanted: &str) -> bool
     says(alloc, core.system(), &draft.move_to(front), wanted)
 }
 
-// Whether a draft has so many entries in its front, and two after them.
-fn is_over(draft: &Draft, front: usize) -> bool {
-    draft.front().len() == front && draft.scope().len() == front + 2 && draft.len() == 2
+// Whether a draft of two declarations has so many entries in its front, and so many in its scope.
+fn is_over(draft: &Draft, front: usize, scope: usize) -> bool {
+    draft.front().len() == front && draft.scope().len() == scope && draft.len() == 2
 }
 
 fn moves(alloc: Global) -> Option<bool> {
     let core = filled_core(alloc)?;
     let mut draft = types(alloc, &core, "c", "d")?;
     let is_free = draft.first_taken(core.context()).is_none();
-    Some(is_free && moves_to(alloc, &core, &mut draft, "") && is_over(&draft, 2))
+    Some(is_free && moves_to(alloc, &core, &mut draft, "") && is_over(&draft, 2, 4))
 }
 
 #[test]
@@ -74,7 +74,7 @@ fn stays(alloc: Global) -> Option<bool> {
     let core = filled_core(alloc)?;
     let mut draft = types(alloc, &core, "c", "b")?;
     let is_taken = is_first_taken(&core, &draft, "b", 1);
-    Some(is_taken && moves_to(alloc, &core, &mut draft, "Taken b 1") && is_over(&draft, 0))
+    Some(is_taken && moves_to(alloc, &core, &mut draft, "Taken b 1") && is_over(&draft, 0, 2))
 }
 
 #[test]

@@ -2,4 +2,4 @@ use Rattle.std.proofs.Common.{◌≡◌, false}
 use Rattle.pts_bench.proofs.goals.refilling.Given as goal
 
 abbrev pub invariant-refill : goal.invariant-refill
-invariant-refill l = l.proof.is_lent ≡ false
+invariant-refill g l = l.proof.is_lent ≡ false
