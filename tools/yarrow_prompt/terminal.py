@@ -135,6 +135,7 @@ class Terminal:
             return
         path = os.path.join(state_folder(), "last.prove")
         try:
+            os.makedirs(state_folder(), mode=0o700, exist_ok=True)
             with open(os.open(path, os.O_CREAT | os.O_WRONLY | os.O_TRUNC, 0o600), "w", encoding="utf-8") as file:
                 file.write(saved_text(self.prompt))
             print(f"The lines are in {path}.", flush=True)
