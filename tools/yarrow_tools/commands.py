@@ -17,8 +17,8 @@ def prove(words: Sequence[str]) -> int:
 
 COMMANDS = {"compare": compare.run, "explain": batch.run, "join": join.run, "lint": lint.run, "prove": prove, "systems": listing.run}
 NOT_WRITTEN = 5
-# Why standard output could not be written: nobody reads it, its file can't grow, its device fails.
-UNWRITTEN = (errno.EPIPE, errno.ENOSPC, errno.EFBIG, errno.EDQUOT, errno.EIO)
+# Why standard output could not be written, beside that nobody reads it: its file can't grow, or its device fails.
+UNWRITTEN = (errno.ENOSPC, errno.EFBIG, errno.EDQUOT, errno.EIO)
 
 
 def main(words: Sequence[str]) -> int:
@@ -29,7 +29,7 @@ def main(words: Sequence[str]) -> int:
         status = COMMANDS[words[0]](words[1:])
         sys.stdout.flush()
     except OSError as error:
-        if error.errno not in UNWRITTEN:
+        if not isinstance(error, BrokenPipeError) and error.errno not in UNWRITTEN:
             raise
         os.dup2(os.open(os.devnull, os.O_WRONLY), 1)
         return NOT_WRITTEN
