@@ -1,5 +1,6 @@
 import unittest
 
+from yarrow_tools.reading import near_names
 from yarrow_tools.refusal import Refusal, refusal
 from yarrow_tools.sentences import explained
 from yarrow_tools.source import Source
@@ -107,6 +108,11 @@ class Sentences(unittest.TestCase):
         self.assertEqual(explained(source, refusal("refused m Declaration 4 UnknownName 12 frist")).note.text, "frist is no binder and no declaration before this line. Near to it: first.")
         self.assertEqual(explained(source, refusal("refused m Declaration 5 UnknownName 12 last")).note.text, "last is declared later, in line 6.")
         self.assertEqual(explained(source, refusal("refused m Declaration 4 Taken m.first 0")).note.text, "first is declared already in line 3. Take another name.")
+
+    def test_names_nearby_among_many(self):
+        known = [f"part{it % 7}.lemma_{it}" for it in range(10_000)] + ["transitive"]
+        self.assertEqual(near_names("transtive", known), ["transitive"])
+        self.assertEqual(near_names("part4.lema_774", known)[:1], ["part4.lemma_774"])
 
 
 class Refusals(unittest.TestCase):

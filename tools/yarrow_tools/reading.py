@@ -43,8 +43,8 @@ LETTERS = ("λ", "Π")
 AS_SIGN = {"λ": "λ is a letter here: write \\x:A. b.", "Π": "Π is a letter here: write @x:A. B."}
 HABITS = {**AS_SIGN, "fun": "Write \\x:A. b.", "forall": "Write @x:A. B."}
 TYPES = ("Prop", "Set", "Type")
-# So many names are looked at closely, which takes long.
-LIKELY = 50
+# So many names are looked at more closely, and so many closely, which takes long.
+POSSIBLE, LIKELY = 500, 50
 
 
 def token_from(found: Sequence[Token], place: int) -> Optional[Token]:
@@ -146,7 +146,9 @@ def likeness(one: str, other: str) -> int:
 
 
 def near_names(name: str, known: Sequence[str]) -> List[str]:
-    likely = known if len(known) <= LIKELY else heapq.nlargest(LIKELY, known, key=lambda it: likeness(name, it))
+    signs = set(name)
+    possible = known if len(known) <= POSSIBLE else heapq.nsmallest(POSSIBLE, known, key=lambda it: len(signs.symmetric_difference(it)))
+    likely = possible if len(possible) <= LIKELY else heapq.nlargest(LIKELY, possible, key=lambda it: likeness(name, it))
     near = difflib.get_close_matches(name, likely, 2, 0.6)
     return near + [it for it in known if it.rpartition(".")[2] == name and it not in near][:2]
 
