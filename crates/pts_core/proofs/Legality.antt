@@ -19,7 +19,7 @@ use Rattle.pts_check.proofs.Entering.{without_fault, fresh_bare}
 use Rattle.pts_core.specs.declared.finding.Finding.{Finding}
 use Rattle.pts_core.specs.declared.finding.Finding.TheVariants.{Sound}
 use Rattle.pts_core.specs.Findings.{or_doubled, or_faulty, finding_from, finding_of}
-use Rattle.pts_core.specs.Replies.{clash_from, first_clash}
+use Rattle.pts_core.specs.Replies.{or_taken, clash_from, first_clash}
 use Rattle.pts_core.proofs.Clashes.{not_taken}
 
 either : {A B C : Type 0} → (A → C) → (B → C) → A ⊎ B → C
@@ -67,3 +67,15 @@ prefix_has F G p = subst (HasEntries (bare_front F)) (sym (map-append bare_globa
 pub sound_enters : (S : Specification) (F G : List (Global Name)) (ds : List Declaration) → IsPrefix F G → Legal S (bare_front G) → finding_of S F ds ≡ Sound → first_clash G (declared_entries ds) ≡ None → Legal S (bare_front (G ++ declared_entries ds))
 unfolding finding_of first_clash
 sound_enters S F G ds p l sound free = legal_on S 0 ds F G (prefix_has F G p) l sound free
+
+once_from : (S : Specification) (k : ℕ) (ds : List Declaration) (F : List (Global Name)) → finding_from S F k ds ≡ Sound → clash_from F k (declared_entries ds) ≡ None
+once_from S k [] F sound = refl
+once_from S k (d ∷ ds) F sound =
+    let a = not_doubled k (place_of d.name F) _ sound in
+    let b = not_faulty k (declaration_fault S F d.proof (declared d)) _ a.1 in
+    ap (λ o. or_taken k o (clash_from (F ++ declared d ∷ []) (suc k) (declared_entries ds))) a.0 ∙ once_from S (suc k) ds (F ++ declared d ∷ []) b.1
+
+-- Where all is found sound, no name is there twice.
+pub sound_once : (S : Specification) (F : List (Global Name)) (ds : List Declaration) → finding_of S F ds ≡ Sound → first_clash F (declared_entries ds) ≡ None
+unfolding finding_of first_clash
+sound_once S F ds sound = once_from S 0 ds F sound

@@ -1,8 +1,9 @@
 // Offers that were examined.
 
-ghost use Rattle.std.specs.Prelude.{◌≡◌, ◌≢◌, ℕ, length, None, Some, IfOk, IfSome};
+ghost use Rattle.std.specs.Prelude.{◌≡◌, ◌≢◌, ℕ, length, true, None, Some, IfOk, IfSome};
 ghost use Rattle.std.specs.Option.{option_copied};
 ghost use Rattle.pts_ctx.specs.Front.{bare_front};
+ghost use Rattle.pts_ctx.specs.Seen.{globals_within};
 ghost use Rattle.pts_rules.specs.Derives.{Legal};
 ghost use Rattle.pts_check.specs.Entered.{declared_entries};
 ghost use Rattle.pts_core.specs.InnerNames.{NoneInner};
@@ -12,7 +13,7 @@ ghost use Rattle.pts_core.specs.Obstacles.{IsFaultless};
 ghost use Rattle.pts_core.specs.declared.finding.Finding.TheVariants.{Sound};
 
 use crate::copies::{Copies, label_of, names_of};
-use crate::examining::{entries_of, look_through};
+use crate::examining::{entries_of, entry_copies, look_through};
 use crate::finding::Finding;
 use crate::offer::Offer;
 use pts_ctx::{Entry, System};
@@ -157,5 +158,36 @@ pub fn examine(alloc: Global, system: &System, offer: Offer) -> Result<Examined,
         label,
         finding: found.finding,
         place: found.place,
+    })
+}
+
+/// The same of an offer that is known to be sound: it is found so, and no record is looked at. The entries are copied once, and
+/// the offer stays.
+///
+/// # Errors
+///
+/// Out of memory.
+#[tactic(auto, using(crate::proofs::Legality::sound_once))]
+pub fn examine_sound(alloc: Global, system: &System, offer: &Offer) -> Result<Examined, AllocError>
+    requires sound { finding_of system.now offer.now.front.entries offer.now.declarations ≡ Sound }
+    requires within { globals_within (declared_entries offer.now.declarations) ≡ true }
+    requires names { NoneInner (declared_entries offer.now.declarations) }
+    ensures system { IfOk result (λ x. x.system ≡ system.now) }
+    ensures offer { IfOk result (λ x. x.offer ≡ offer.now) }
+    ensures finding { IfOk result (λ x. x.finding ≡ Sound) }
+{
+    let declarations = offer.declarations.items();
+    let entries = entry_copies(alloc, declarations)?;
+    let names = names_of(alloc, declarations)?;
+    let label = label_of(&offer.label)?;
+    Ok(Examined {
+        system: Snapshot::of(system),
+        offer: Snapshot::of(offer),
+        front: offer.front.len(),
+        entries,
+        names,
+        label,
+        finding: Finding::Sound,
+        place: 0,
     })
 }

@@ -74,6 +74,20 @@ fn entry_of(alloc: Global, declaration: &Declaration) -> Result<Entry, AllocErro
     })
 }
 
+/// The entries of declarations, as copies.
+pub(crate) fn entry_copies(
+    alloc: Global,
+    declarations: &[Declaration],
+) -> Result<Vec<Entry>, AllocError>
+    ensures { IfOk result (λ v. map global_of v.items ≡ declared_entries declarations.now) }
+{
+    let mut entries = Vec::with_capacity(alloc, declarations.len())?;
+    for declaration in declarations {
+        entries.push(entry_of(alloc, declaration)?)?;
+    }
+    Ok(entries)
+}
+
 /// The entries of declarations, whose records are given back.
 pub(crate) fn entries_of(
     alloc: Global,

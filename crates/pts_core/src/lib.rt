@@ -19,7 +19,7 @@ mod port;
 mod reply;
 
 pub use event::Event;
-pub use examined::{Examined, examine};
+pub use examined::{Examined, examine, examine_sound};
 pub use finding::Finding;
 pub use inner::{first_inner, is_inner};
 pub use keeper::{Core, EVENTS};
