@@ -1,11 +1,12 @@
 -- What is sure of a draft stays so, whatever is done to it.
-use Rattle.std.proofs.Common.{◌≡◌, ℕ, ◌-◌, ◌≤◌, List, [], ◌∷◌, ◌++◌, length, take, drop, None, sym, ap, ◌∙◌, subst, arith}
+use Rattle.std.proofs.Common.{◌≡◌, ℕ, ◌-◌, ◌≤◌, List, [], ◌∷◌, ◌++◌, length, take, drop, true, None, sym, ap, ◌∙◌, subst, arith}
 use Rattle.std.proofs.lemmas.List.{append-nil, append_assoc, map-append, length-append}
 use Rattle.std.proofs.Math.Seq.{drop-append_seam}
 use Rattle.pts_names.specs.Name.{Name}
 use Rattle.pts_ctx.specs.System.{Specification}
 use Rattle.pts_ctx.specs.Front.{Global, bare_front}
-use Rattle.pts_ctx.specs.Seen.{IsPrefix, LabelsInside, NamesDiffer}
+use Rattle.pts_ctx.specs.Seen.{IsPrefix, LabelsInside, NamesDiffer, globals_within}
+use Rattle.pts_ctx.proofs.Lookups.{within-right}
 use Rattle.pts_record.specs.declared.declaration.Declaration.{Declaration}
 use Rattle.pts_rules.specs.Derives.{Legal}
 use Rattle.pts_check.specs.Entered.{declared, declared_entries, MayEnter, MayFollow}
@@ -42,6 +43,10 @@ module _ (S : Specification) (F G : LabelledFront) (ds : List Declaration) (k : 
         ∙ (append_assoc F.entries (declared_entries ds) (declared d ∷ []) ∙ ap (λ E. F.entries ++ E) (sym (map-append declared ds (d ∷ [])) ∙ ap declared_entries (sym e))));
     scope_labels = l ∙ k.scope_labels;
   }
+
+  -- The entries of the declarations are within limits, as those of the scope.
+  pub kept_within : globals_within G.entries ≡ true → globals_within (declared_entries ds) ≡ true
+  kept_within w = within-right F.entries (declared_entries ds) (ap globals_within (sym k.scope_entries) ∙ w)
 
   -- The last declarations taken back, this many of them.
   pub kept_inside : (count : ℕ) → count ≤ length ds → count ≤ length G.entries

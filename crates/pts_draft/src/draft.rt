@@ -8,10 +8,11 @@ ghost use Rattle.pts_ctx.specs.Seen.{IsPrefix, place_of};
 ghost use Rattle.pts_rules.specs.Derives.{Legal};
 ghost use Rattle.pts_rules.specs.Meter.{left};
 ghost use Rattle.pts_rules.specs.Valid.{IsValid, concludes};
-ghost use Rattle.pts_check.specs.Entered.{MayEnter, bare_declared};
+ghost use Rattle.pts_check.specs.Entered.{MayEnter, bare_declared, declared_entries};
 ghost use Rattle.pts_reduce.specs.Given.{Later};
 ghost use Rattle.pts_declare.specs.Stated.{assumption, stated_of};
 ghost use Rattle.pts_core.specs.Findings.{finding_of};
+ghost use Rattle.pts_core.specs.InnerNames.{NoneInner};
 ghost use Rattle.pts_core.specs.declared.finding.Finding.TheVariants.{Sound};
 ghost use Rattle.pts_draft.specs.Drafts.{IsDeclared, IsLegalDraft, definition_of, first_taken, scope};
 ghost use Rattle.pts_draft.specs.Refusals.{IsTaken, RefusesStated};
@@ -20,7 +21,7 @@ use crate::copies::copies_of;
 use crate::fault::DraftFault;
 use crate::scopes::{extend, first_taken, scope_over};
 use pts_check::concluded_limits;
-use pts_core::Offer;
+use pts_core::{Examined, Offer, examine_sound};
 use pts_ctx::{Context, System};
 use pts_declare::{Stated, check};
 use pts_names::{List, Name};
@@ -29,6 +30,7 @@ use pts_rules::Meter;
 use pts_terms::Term;
 use std::alloc::{AllocError, Global};
 use std::marker::Model;
+use std::mem;
 use std::snapshot::Snapshot;
 
 /// Declarations over a legal front, in the order in which they came. The record of each is valid over the front and the entries of
@@ -278,6 +280,37 @@ impl Draft {
             declarations: List::of(declarations),
             label: None,
         })
+    }
+
+    /// What `examine` gives for the offer of the declarations, without a label. The declarations were found sound one by one, so no
+    /// record is looked at or copied: the entries are copied once, and the draft stays.
+    ///
+    /// # Errors
+    ///
+    /// Out of memory.
+    #[tactic(auto, using(crate::proofs::Following::follow_sound))]
+    pub fn examined(&mut self, system: &System) -> Result<Examined, AllocError>
+        requires system { system.now ≡ self.old.system }
+        requires names { NoneInner (declared_entries self.old.declarations) }
+        ensures system { IfOk result (λ x. x.system ≡ self.old.system) }
+        ensures entries { IfOk result (λ x. x.offer.front.entries ≡ self.old.entries) }
+        ensures labels { IfOk result (λ x. x.offer.front.labels ≡ self.old.labels) }
+        ensures declarations { IfOk result (λ x. x.offer.declarations ≡ self.old.declarations) }
+        ensures label { IfOk result (λ x. x.offer.label ≡ None) }
+        ensures sound { IfOk result (λ x. x.finding ≡ Sound) }
+        ensures same { self.new ≡ self.old }
+    {
+        self.scope.is_orderly();
+        let front = self.front.copy()?;
+        let declarations = mem::replace(&mut self.declarations, Vec::new(self.alloc));
+        let offer = Offer {
+            front,
+            declarations: List::of(declarations),
+            label: None,
+        };
+        let examined = examine_sound(self.alloc, system, &offer);
+        self.declarations = offer.declarations.into_vec();
+        examined
     }
 
     /// The same draft again, in its system. The front and the scope are copied, and so are the declarations with their records.
