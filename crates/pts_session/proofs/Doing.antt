@@ -6,9 +6,7 @@ use Rattle.pts_names.specs.Name.{Name}
 use Rattle.pts_ctx.specs.System.{Specification}
 use Rattle.pts_ctx.specs.Front.{Global}
 use Rattle.pts_check.specs.Entered.{declared, declared_entries}
-use Rattle.pts_core.specs.declared.offer.Offer.{Offer}
 use Rattle.pts_core.specs.declared.finding.Finding.TheVariants.{Sound}
-use Rattle.pts_core.specs.Findings.{finding_of}
 use Rattle.pts_core.specs.Cores.{SeenExamined, labelled}
 use Rattle.pts_draft.specs.Drafts.{SeenDraft, scope}
 use Rattle.pts_lines.specs.declared.line.Line.TheVariants as line
@@ -80,13 +78,13 @@ module _ {X E : Type 0} (came : X → State → Came) (S : Specification) (s t :
 pub asks_as : (S : Specification) (s t : State) (c : Line) (r : Local Request) (q : Request) → r ≡ Ask q → t ≡ s → Does S s c (asks q (record { state = s; awaited = awaited_after q })) → Does S s c (came_to r t)
 asks_as S s t c r q e f d = subst (λ l. Does S s c (came_to l t)) (sym e) (subst (λ u. Does S s c (asks q (record { state = u; awaited = awaited_after q }))) (sym f) d)
 
-pub offers_is : (S : Specification) (d : SeenDraft) (b : ℕ) (offer : Offer) (x : SeenExamined) → d.system ≡ S → x.system ≡ S → x.offer ≡ offer → x.finding ≡ finding_of S offer.front.entries offer.declarations → offer.front.entries ≡ d.entries → offer.front.labels ≡ d.labels → offer.declarations ≡ d.declarations → offer.label ≡ None → finding_of d.system offer.front.entries offer.declarations ≡ Sound → OffersDraft S (state_of d b) x
-offers_is S d b offer x same system is found entries labels declarations label sound = record {
-  system = system;
-  front = ap (λ o. labelled o.front) is ∙ (λ i. record { entries = entries i; labels = labels i });
-  entries = ap (λ o. declared_entries o.declarations) is ∙ ap declared_entries declarations;
-  label = ap (λ o. o.label) is ∙ label;
-  finding = found ∙ (ap (λ R. finding_of R offer.front.entries offer.declarations) (sym same) ∙ sound);
+pub offers_is : (S : Specification) (d : SeenDraft) (b : ℕ) (x : SeenExamined) → d.system ≡ S → x.system ≡ d.system → x.offer.front.entries ≡ d.entries → x.offer.front.labels ≡ d.labels → x.offer.declarations ≡ d.declarations → x.offer.label ≡ None → x.finding ≡ Sound → OffersDraft S (state_of d b) x
+offers_is S d b x same system entries labels declarations label sound = record {
+  system = system ∙ same;
+  front = λ i. record { entries = entries i; labels = labels i };
+  entries = ap declared_entries declarations;
+  label = label;
+  finding = sound;
 }
 
 -- What changes the draft or the budget.

@@ -28,7 +28,7 @@ use crate::moving::move_draft;
 use crate::replies::{count_line, one, refused_line, reply_line, unread_line};
 use crate::request::{Awaited, Request};
 use crate::world::World;
-use pts_core::{Answer, examine};
+use pts_core::Answer;
 use pts_ctx::{Context, System};
 use pts_draft::Draft;
 use pts_lines::{Line, ReadFault, read_line};
@@ -193,7 +193,7 @@ impl Session {
     {
         match line {
             Line::Look => Ok(self.ask(Awaited::Look, Request::Look)),
-            Line::Commit => self.commit(alloc, world),
+            Line::Commit => self.commit(world),
             Line::Assume(name, ty) => self.assume(alloc, world, name, ty),
             Line::Define(name, ty, body) => self.define(alloc, world, name, ty, body),
             Line::Budget(units) => self.set_budget(alloc, world, *units),
@@ -215,15 +215,14 @@ impl Session {
     }
 
     // `commit`
-    fn commit(&mut self, alloc: Global, world: &World) -> Result<Local<Request>, AllocError>
+    fn commit(&mut self, world: &World) -> Result<Local<Request>, AllocError>
         requires free { IsFree world.now.system self.old }
         ensures line { IfOk result (λ l. Does world.now.system self.old.state line.Commit (came_to l self.new.state)) }
         ensures awaits { IfOk result (λ l. self.new.awaited ≡ awaited_by l) }
         ensures system { self.new.system ≡ self.old.system }
         ensures same { OnErr result (self.new ≡ self.old) }
     {
-        let offer = self.draft.offer()?;
-        let examined = examine(alloc, &world.system, offer)?;
+        let examined = self.draft.examined(&world.system)?;
         Ok(self.ask(Awaited::Submission, Request::Submit(examined)))
     }
 
