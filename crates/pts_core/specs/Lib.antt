@@ -1,6 +1,7 @@
 pub mod InnerNames
 pub mod Findings
 pub mod Replies
+pub mod ReplyText
 pub mod Histories
 pub mod Cores
 pub mod Events

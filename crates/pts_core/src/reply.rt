@@ -5,6 +5,8 @@ ghost use Rattle.std.specs.Prelude.{◌≡◌, IfOk};
 use pts_names::Name;
 use pts_rules::Why;
 use std::alloc::AllocError;
+use std::fmt;
+use std::fmt::{Display, Formatter};
 
 /// The reply to an event. Places count entries from the first one on.
 #[derive(Debug, Drop)]
@@ -40,5 +42,23 @@ impl Reply {
             Reply::Loaded(label, place) => Reply::Loaded(label.copy()?, *place),
             Reply::ContextFull(entries) => Reply::ContextFull(*entries),
         })
+    }
+}
+
+impl Display for Reply {
+    ghost use Rattle.std.specs.Prelude.{Some};
+    ghost use Rattle.pts_core.specs.ReplyText.{reply_text};
+
+    ghost output = { λ r. Some (reply_text r) };
+
+    fn fmt<W: fmt::Write>(&self, f: &mut Formatter<W>) -> fmt::Result {
+        match self {
+            Reply::Seen(entries) => write!(f, "seen {entries}"),
+            Reply::Committed(from, to) => write!(f, "committed {from} {to}"),
+            Reply::Faulty(name, node, why) => write!(f, "refused Faulty {name} {node} {why}"),
+            Reply::Clash(name, place) => write!(f, "refused Clash {name} {place}"),
+            Reply::Loaded(label, place) => write!(f, "refused Loaded {label} {place}"),
+            Reply::ContextFull(entries) => write!(f, "refused ContextFull {entries}"),
+        }
     }
 }

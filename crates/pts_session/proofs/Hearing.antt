@@ -13,11 +13,11 @@ use Rattle.pts_core.specs.declared.reply.Reply.{Reply}
 use Rattle.pts_core.specs.declared.reply.Reply.TheVariants.{Seen, Committed, Faulty, Clash, Loaded, ContextFull}
 use Rattle.pts_core.specs.Replies.{LabelledFront}
 use Rattle.pts_core.specs.Ports.{handed_on}
+use Rattle.pts_core.specs.ReplyText.{reply_text}
 use Rattle.pts_draft.specs.Drafts as drafts
 use Rattle.pts_session.specs.declared.request.Awaited.{Awaited}
 use Rattle.pts_session.specs.declared.request.Awaited.TheVariants as awaited
 use Rattle.pts_session.specs.State.{State}
-use Rattle.pts_session.specs.Replies.{reply_line}
 use Rattle.pts_session.specs.Answers.{first_taken, front_in, reply_in, MayBeReply, Resume, moves, stays, has_entered, has_not_entered}
 use Rattle.pts_session.specs.Seen.{SeenSession}
 use Rattle.pts_session.specs.Players.{GoesOn, MayHear, Hears}
@@ -56,7 +56,7 @@ asked_submission o awaited.Submission e l = refl
 asked_submission o awaited.Look e l = absurd (let wrong : true ≡ false = sym (ap is_look e) ∙ l in cc wrong)
 
 module _ (s : State) (a : Answer) where
-  look_resumes : (F : LabelledFront) (r : Reply) (t : Option (Name × ℕ)) → reply_in a ≡ r → MayBeReply awaited.Look r → front_in a ≡ Some F → first_taken F.entries s.draft ≡ t → Resume (record { state = s; awaited = awaited.Look }) a (reply_line r ∷ moved_lines t) (moved_state s F t)
+  look_resumes : (F : LabelledFront) (r : Reply) (t : Option (Name × ℕ)) → reply_in a ≡ r → MayBeReply awaited.Look r → front_in a ≡ Some F → first_taken F.entries s.draft ≡ t → Resume (record { state = s; awaited = awaited.Look }) a (reply_text r ∷ moved_lines t) (moved_state s F t)
   look_resumes F (Seen n) None e m f g = moves refl e f g
   look_resumes F (Seen n) (Some t) e m f g = stays refl e f g
   look_resumes F (Committed n k) t e m f g = absurd m
@@ -65,7 +65,7 @@ module _ (s : State) (a : Answer) where
   look_resumes F (Loaded x p) t e m f g = absurd m
   look_resumes F (ContextFull n) t e m f g = absurd m
 
-  entered_resumes : (F G : LabelledFront) (r : Reply) → reply_in a ≡ r → MayBeReply awaited.Submission r → front_in a ≡ Some F → front_in a ≡ handed_on r G → Resume (record { state = s; awaited = awaited.Submission }) a (reply_line r ∷ []) (record s { base = F; draft = [] })
+  entered_resumes : (F G : LabelledFront) (r : Reply) → reply_in a ≡ r → MayBeReply awaited.Submission r → front_in a ≡ Some F → front_in a ≡ handed_on r G → Resume (record { state = s; awaited = awaited.Submission }) a (reply_text r ∷ []) (record s { base = F; draft = [] })
   entered_resumes F G (Committed n k) e m f h = has_entered refl e f
   entered_resumes F G (Seen n) e m f h = absurd m
   entered_resumes F G (Faulty x k w) e m f h = absurd (none-some F (sym h ∙ f))
@@ -73,7 +73,7 @@ module _ (s : State) (a : Answer) where
   entered_resumes F G (Loaded x p) e m f h = absurd (none-some F (sym h ∙ f))
   entered_resumes F G (ContextFull n) e m f h = absurd (none-some F (sym h ∙ f))
 
-  refused_resumes : (G : LabelledFront) (w : Awaited) (r : Reply) → reply_in a ≡ r → MayBeReply w r → front_in a ≡ None → front_in a ≡ handed_on r G → Resume (record { state = s; awaited = w }) a (reply_line r ∷ []) s
+  refused_resumes : (G : LabelledFront) (w : Awaited) (r : Reply) → reply_in a ≡ r → MayBeReply w r → front_in a ≡ None → front_in a ≡ handed_on r G → Resume (record { state = s; awaited = w }) a (reply_text r ∷ []) s
   refused_resumes G awaited.Submission r e m f h = has_not_entered refl e f
   refused_resumes G awaited.Look (Seen n) e m f h = absurd (none-some G (sym f ∙ h))
   refused_resumes G awaited.Look (Committed n k) e m f h = absurd m
@@ -92,28 +92,28 @@ module _ (s t : SeenSession) (a : Answer) (m : MayHear s a) (system : t.system �
     free = free;
   }
 
-  pub hears_look : (F : LabelledFront) (out : List (List ℕ)) → is_look s.awaited ≡ true → front_in a ≡ Some F → out ≡ (reply_line (reply_in a) ∷ []) ++ moved_lines (first_taken F.entries s.state.draft) → t.state ≡ moved_state s.state F (first_taken F.entries s.state.draft) → Hears s a out t
+  pub hears_look : (F : LabelledFront) (out : List (List ℕ)) → is_look s.awaited ≡ true → front_in a ≡ Some F → out ≡ (reply_text (reply_in a) ∷ []) ++ moved_lines (first_taken F.entries s.state.draft) → t.state ≡ moved_state s.state F (first_taken F.entries s.state.draft) → Hears s a out t
   hears_look F out l f e g =
       let w = asked_look s.awaited m.asked m.waits l in
-      hears out _ _ (subst (λ v. Resume (record { state = s.state; awaited = v }) a (reply_line (reply_in a) ∷ moved_lines (first_taken F.entries s.state.draft)) (moved_state s.state F (first_taken F.entries s.state.draft))) (sym w)
+      hears out _ _ (subst (λ v. Resume (record { state = s.state; awaited = v }) a (reply_text (reply_in a) ∷ moved_lines (first_taken F.entries s.state.draft)) (moved_state s.state F (first_taken F.entries s.state.draft))) (sym w)
       (look_resumes s.state a F (reply_in a) (first_taken F.entries s.state.draft) refl (subst (λ v. MayBeReply v (reply_in a)) w m.answered.reply) f refl)) e g
 
-  pub hears_entered : (F : LabelledFront) (out : List (List ℕ)) → is_look s.awaited ≡ false → front_in a ≡ Some F → out ≡ reply_line (reply_in a) ∷ [] → t.state ≡ record s.state { base = F; draft = [] } → Hears s a out t
+  pub hears_entered : (F : LabelledFront) (out : List (List ℕ)) → is_look s.awaited ≡ false → front_in a ≡ Some F → out ≡ reply_text (reply_in a) ∷ [] → t.state ≡ record s.state { base = F; draft = [] } → Hears s a out t
   hears_entered F out l f e g =
       let w = asked_submission s.awaited m.asked m.waits l in
-      hears out _ _ (subst (λ v. Resume (record { state = s.state; awaited = v }) a (reply_line (reply_in a) ∷ []) (record s.state { base = F; draft = [] })) (sym w)
+      hears out _ _ (subst (λ v. Resume (record { state = s.state; awaited = v }) a (reply_text (reply_in a) ∷ []) (record s.state { base = F; draft = [] })) (sym w)
       (entered_resumes s.state a F m.front (reply_in a) refl (subst (λ v. MayBeReply v (reply_in a)) w m.answered.reply) f m.answered.handed)) e g
 
-  pub hears_refused : (out : List (List ℕ)) → front_in a ≡ None → out ≡ reply_line (reply_in a) ∷ [] → t.state ≡ s.state → Hears s a out t
+  pub hears_refused : (out : List (List ℕ)) → front_in a ≡ None → out ≡ reply_text (reply_in a) ∷ [] → t.state ≡ s.state → Hears s a out t
   hears_refused out f e g = hears out _ _ (refused_resumes s.state a m.front m.asked (reply_in a) refl m.answered.reply f m.answered.handed) e g
 
 -- What a session makes of an answer with a front.
-module _ {X E : Type 0} (items : X → List (List ℕ)) (s t : SeenSession) (a : Answer) (m : MayHear s a) (system : t.system ≡ s.system) (free : t.awaited ≡ None) (u : State) (same : u ≡ s.state) (F : LabelledFront) (given : front_in a ≡ Some F) (lines : List (List ℕ)) (reply : lines ≡ reply_line (reply_in a) ∷ []) where
+module _ {X E : Type 0} (items : X → List (List ℕ)) (s t : SeenSession) (a : Answer) (m : MayHear s a) (system : t.system ≡ s.system) (free : t.awaited ≡ None) (u : State) (same : u ≡ s.state) (F : LabelledFront) (given : front_in a ≡ Some F) (lines : List (List ℕ)) (reply : lines ≡ reply_text (reply_in a) ∷ []) where
   pub hears_front : (r : Result X E) (looked : Bool) → looked ≡ is_look s.awaited → (looked ≡ true → IfOk r (λ v. items v ≡ lines ++ moved_lines (first_taken F.entries u.draft))) → (looked ≡ true → OnOk r (t.state ≡ moved_state u F (first_taken F.entries u.draft))) → (looked ≡ false → IfOk r (λ v. items v ≡ lines)) → (looked ≡ false → OnOk r (t.state ≡ record u { base = F; draft = [] })) → IfOk r (λ v. Hears s a (items v) t)
   hears_front (Err e) looked l moved base begun empty = tt
   hears_front (Ok v) true l moved base begun empty =
       hears_look s t a m system free F (items v) (sym l) given
-      (subst (λ w. items v ≡ (reply_line (reply_in a) ∷ []) ++ moved_lines (first_taken F.entries w.draft)) same (moved refl ∙ ap (λ k. k ++ moved_lines (first_taken F.entries u.draft)) reply))
+      (subst (λ w. items v ≡ (reply_text (reply_in a) ∷ []) ++ moved_lines (first_taken F.entries w.draft)) same (moved refl ∙ ap (λ k. k ++ moved_lines (first_taken F.entries u.draft)) reply))
       (subst (λ w. t.state ≡ moved_state w F (first_taken F.entries w.draft)) same (base refl))
   hears_front (Ok v) false l moved base begun empty =
       hears_entered s t a m system free F (items v) (sym l) given (begun refl ∙ reply)

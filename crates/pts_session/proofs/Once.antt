@@ -31,11 +31,12 @@ use Rattle.pts_core.specs.declared.finding.Finding.TheVariants.{Sound}
 use Rattle.pts_core.specs.Replies.{LabelledFront}
 use Rattle.pts_core.specs.Histories.{submission}
 use Rattle.pts_core.specs.Cores.{SeenExamined, submitted}
+use Rattle.pts_core.specs.ReplyText.{reply_text}
 use Rattle.pts_queries.specs.Replies.{refusal, declared_line}
 use Rattle.pts_queries.specs.Queries.{AnswersInfer, AnswersReduce, AnswersEqual, found_line}
 use Rattle.pts_queries.proofs.Once.{infer_once, reduce_once, equal_once}
 use Rattle.pts_session.specs.State.{State, Waiting, Came, scope, changed, settled, OffersDraft}
-use Rattle.pts_session.specs.Replies.{count_line, reply_line, taken_line}
+use Rattle.pts_session.specs.Replies.{count_line, taken_line}
 use Rattle.pts_session.specs.Declaring.{Declares, unknown_word, name_is_taken, is_stopped, is_spent, enters, with_entry, word_of}
 use Rattle.pts_session.specs.Lines.{tests, first_failing, IsLine, Does, looks, commits, assumes_type, defines_name, sets_budget, infers, reduces, compares, discards, shows, lists_draft, ComesTo, is_no_line, is_refused, is_done}
 use Rattle.pts_session.specs.Answers.{first_taken, Resume, moves, stays, has_entered, has_not_entered}
@@ -202,7 +203,7 @@ pub answers_once : (w : Waiting) (a : Answer) (k l : List (List ℕ)) (t u : Sta
 answers_once w a k l t u (moves {n = n} {F = F} i r f e) (moves {n = m} {F = G} j q g h) =
     let same : F ≡ G = cc in
     let number : n ≡ m = cc in
-    (ap (λ x. reply_line (Seen x) ∷ []) number, ap (λ H. settled (record w.state { base = H })) same)
+    (ap (λ x. reply_text (Seen x) ∷ []) number, ap (λ H. settled (record w.state { base = H })) same)
 answers_once w a k l t u (moves {n = n} {F = F} i r f e) (stays {n = m} {F = G} {x = x} {p = p} j q g h) =
     let same : F ≡ G = cc in
     let z : None ≡ Some (x, p) = sym e ∙ (ap (λ H. first_taken H.entries w.state.draft) same ∙ h) in
@@ -218,7 +219,7 @@ answers_once w a k l t u (stays {n = n} {F = F} {x = x} {p = p} i r f e) (stays 
     let number : n ≡ m = cc in
     let z : Some (x, p) ≡ Some (y, v) = sym e ∙ (ap (λ H. first_taken H.entries w.state.draft) same ∙ h) in
     let pair : (x, p) ≡ (y, v) = same_Some (x, p) (y, v) z in
-    (ap (λ b. reply_line (Seen b) ∷ taken_line x p ∷ []) number ∙ ap (λ b. reply_line (Seen m) ∷ taken_line b.0 b.1 ∷ []) pair, refl)
+    (ap (λ b. reply_text (Seen b) ∷ taken_line x p ∷ []) number ∙ ap (λ b. reply_text (Seen m) ∷ taken_line b.0 b.1 ∷ []) pair, refl)
 answers_once w a k l t u (stays i r f e) (has_entered j q g) = absurd (cc)
 answers_once w a k l t u (stays i r f e) (has_not_entered j q g) = absurd (cc)
 answers_once w a k l t u (has_entered j q g) (moves i r f e) = absurd (cc)
@@ -226,9 +227,9 @@ answers_once w a k l t u (has_entered j q g) (stays i r f e) = absurd (cc)
 answers_once w a k l t u (has_entered {n = n} {m = m} {F = F} i r f) (has_entered {n = p} {m = q} {F = G} j x g) =
     let same : F ≡ G = cc in
     let reply : Committed n m ≡ Committed p q = sym r ∙ x in
-    (ap (λ b. reply_line b ∷ []) reply, ap (λ H. settled (record w.state { base = H; draft = [] })) same)
+    (ap (λ b. reply_text b ∷ []) reply, ap (λ H. settled (record w.state { base = H; draft = [] })) same)
 answers_once w a k l t u (has_entered i r f) (has_not_entered j q g) = absurd (cc)
 answers_once w a k l t u (has_not_entered j q g) (moves i r f e) = absurd (cc)
 answers_once w a k l t u (has_not_entered j q g) (stays i r f e) = absurd (cc)
 answers_once w a k l t u (has_not_entered j q g) (has_entered i r f) = absurd (cc)
-answers_once w a k l t u (has_not_entered {r = x} i r f) (has_not_entered {r = y} j q g) = (ap (λ b. reply_line b ∷ []) (sym r ∙ q), refl)
+answers_once w a k l t u (has_not_entered {r = x} i r f) (has_not_entered {r = y} j q g) = (ap (λ b. reply_text b ∷ []) (sym r ∙ q), refl)

@@ -1,10 +1,11 @@
 // The texts of replies that hold no term.
 
 ghost use Rattle.std.specs.Prelude.{◌≡◌, ◌≢◌, ◌∷◌, [], string_bytes, IfOk, OnOk};
+ghost use Rattle.pts_core.specs.ReplyText.{reply_text};
 ghost use Rattle.pts_parser.specs.declared.fault.ReadFault.{ReadFault};
 ghost use Rattle.pts_parser.specs.FaultText.{read_text};
 ghost use Rattle.pts_queries.specs.Replies.{refusal};
-ghost use Rattle.pts_session.specs.Replies.{count_line, reply_line, taken_line};
+ghost use Rattle.pts_session.specs.Replies.{count_line, taken_line};
 
 use pts_core::Reply;
 use pts_names::{Name, Text};
@@ -13,22 +14,9 @@ use std::alloc::{AllocError, Global};
 
 /// The reply of the core, as it is printed.
 pub(crate) fn reply_line(alloc: Global, reply: &Reply) -> Result<Text, AllocError>
-    ensures { IfOk result (λ line. line ≡ reply_line reply.now) }
+    ensures { IfOk result (λ line. line ≡ reply_text reply.now) }
 {
-    Ok(Text::of(reply_text(alloc, reply)?))
-}
-
-fn reply_text(alloc: Global, reply: &Reply) -> Result<String, AllocError>
-    ensures { IfOk result (λ s. string_bytes s ≡ reply_line reply.now) }
-{
-    match reply {
-        Reply::Seen(entries) => format!(in alloc; "seen {entries}"),
-        Reply::Committed(from, to) => format!(in alloc; "committed {from} {to}"),
-        Reply::Faulty(name, node, why) => format!(in alloc; "refused Faulty {name} {node} {why}"),
-        Reply::Clash(name, place) => format!(in alloc; "refused Clash {name} {place}"),
-        Reply::Loaded(label, place) => format!(in alloc; "refused Loaded {label} {place}"),
-        Reply::ContextFull(entries) => format!(in alloc; "refused ContextFull {entries}"),
-    }
+    Ok(Text::of(format!(in alloc; "{reply}")?))
 }
 
 /// A name that keeps a draft from moving, with its place.

@@ -15,13 +15,13 @@ ghost use Rattle.pts_lines.specs.Seen.{line_of};
 ghost use Rattle.pts_session.specs.Plain.{NamesArePlain};
 ghost use Rattle.pts_session.specs.Players.{Hears, IsFree, MayHear};
 ghost use Rattle.pts_session.specs.Tested.{Tested, is_query, is_single};
-ghost use Rattle.pts_session.specs.Replies.{reply_line};
 ghost use Rattle.pts_session.specs.Moves.{is_look, moved_lines, moved_to};
 ghost use Rattle.pts_session.specs.Answers.{first_taken, reply_in};
 ghost use Rattle.pts_ctx.specs.Front.{bare_front};
 ghost use Rattle.pts_ctx.specs.Seen.{IsPrefix};
 ghost use Rattle.pts_rules.specs.Derives.{Legal};
 ghost use Rattle.pts_core.specs.Cores.{labelled};
+ghost use Rattle.pts_core.specs.ReplyText.{reply_text};
 
 use crate::declaring::{assume, define};
 use crate::moving::move_draft;
@@ -467,7 +467,7 @@ fn shown_lines(
 
 // The reply in an answer.
 fn reply_lines(alloc: Global, answer: &Answer) -> Result<Vec<Text>, AllocError>
-    ensures { IfOk result (λ lines. lines.items ≡ reply_line (reply_in answer.now) ∷ []) }
+    ensures { IfOk result (λ lines. lines.items ≡ reply_text (reply_in answer.now) ∷ []) }
 {
     one(alloc, reply_line(alloc, &answer.receipt.reply)?)
 }
