@@ -1,8 +1,8 @@
-use Rattle.std.proofs.Common.{◌≡◌, sym, ap, ◌∙◌}
+use Rattle.std.proofs.Common.{sym, ap, ◌∙◌}
 use Rattle.pts_record.specs.Table.{bare_at, bare_trees, no_name, unfold_shape}
 use Rattle.pts_ctx.specs.Entries.{global_of}
-use Rattle.pts_tests.proofs.Constants.{entry_found}
-use Rattle.pts_tests.proofs.judgements.constant.Goals as goal
+use Rattle.pts_worked.proofs.Constants.{entry_found}
+use Rattle.pts_worked.proofs.judgements.constant.Goals as goal
 
 pub add_const-requires-clause-entry : goal.add_const-requires-clause-entry
 add_const-requires-clause-entry c =

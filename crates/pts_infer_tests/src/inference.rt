@@ -1,6 +1,5 @@
 // Inference over terms that are handed in, here those of the worked record.
 
-use crate::worked::{front, terms};
 use pts_ctx::{Context, System};
 use pts_infer::{
     FitFault, FlawKind, InferFault, Part, Typed, infer_fitted, infer_term, infer_type,
@@ -9,6 +8,7 @@ use pts_record::Record;
 use pts_reduce::Meter;
 use pts_samples::{prints, simple};
 use pts_terms::{Sort, Term};
+use pts_worked::{front, terms};
 use std::alloc::Global;
 
 fn typed(

@@ -1,7 +1,6 @@
 // Contexts, and judgements without parts, added to the worked record. Numbers are those of its terms and nodes.
 
 use crate::worked::{front, is_begun, is_longer, judged, terms};
-use pts_check::{Verdict, check};
 use pts_ctx::{Context, System};
 use pts_grow::{
     Judged, add_again, add_assume, add_const, add_define, add_empty, add_sort, add_thin, add_var,
@@ -144,16 +143,4 @@ pub fn begun(alloc: Global, system: &System, front: &Context) -> Option<Record> 
         10 => Some(record),
         _ => None,
     }
-}
-
-fn is_valid(alloc: Global) -> Option<bool> {
-    let system = simple(alloc)?;
-    let front = front(alloc).ok()?;
-    let record = begun(alloc, &system, &front)?;
-    Some(record.nodes() == 11 && check(&system, &front, &record) == Verdict::Valid)
-}
-
-#[test]
-fn contexts_and_judgements_without_parts_are_added(rt: HostRuntime) {
-    assert!(rt; is_valid(rt.alloc()) == Some(true));
 }

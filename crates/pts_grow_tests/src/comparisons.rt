@@ -6,7 +6,6 @@ ghost use Rattle.pts_ctx.specs.Front.{Global as Entry, Local};
 ghost use Rattle.pts_record.specs.Table.{named_at};
 ghost use Rattle.pts_rules.specs.Step.{head_step};
 
-use crate::worked::{compared, front, is_bare, is_begun, terms};
 use pts_check::{Verdict, check};
 use pts_ctx::{Context, System};
 use pts_grow::{
@@ -15,6 +14,7 @@ use pts_grow::{
 };
 use pts_record::{Name, Record, Shape};
 use pts_samples::simple;
+use pts_worked::{compared, front, is_bare, is_begun, terms};
 use std::alloc::{AllocError, Global};
 
 fn number(added: Result<Compared, AllocError>) -> Option<usize> {
@@ -39,7 +39,7 @@ pub fn same(record: &mut Record, ctx: usize, term: usize) -> Option<usize> {
 }
 
 // The number of the body of `let y := a : A in A`, to which that steps.
-#[tactic(auto, using(crate::proofs::Constants::constant_left))]
+#[tactic(auto, using(pts_worked::proofs::Constants::constant_left))]
 fn inside(proof: &Record) -> Option<usize>
     requires { 10 ≤ length proof.now.shapes }
     ensures { IfSome result (λ t. (G : List (Entry Spelling)) (L : List (Local Spelling)) → head_step G L (named_at proof.now.shapes 9) ≡ Some (named_at proof.now.shapes t)) }

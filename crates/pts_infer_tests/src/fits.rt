@@ -1,9 +1,6 @@
 // Inference, the sort test and the fit of judgements, over the worked record.
 
-use crate::fronts::assume;
 use crate::inference::{fit_word, infer_word};
-use crate::judgements::begun;
-use crate::worked::{front, is_begun, is_typed, judged};
 use pts_ctx::{Context, NameFault, System};
 use pts_grow::{Judged, add_line};
 use pts_infer::{FitFault, Flaw, FlawKind, InferFault, fit, infer, sort_test};
@@ -12,6 +9,7 @@ use pts_record::{Boxed, Record, Shape};
 use pts_reduce::Meter;
 use pts_samples::simple;
 use pts_terms::{Sort, Term};
+use pts_worked::{assume, begun, front, is_begun, is_typed, judged};
 use std::alloc::Global;
 
 // The inference of a term in a context of the record.

@@ -1,13 +1,14 @@
 // Judgements of products, abstractions, applications and local definitions, and a conversion, added to the worked record.
 
 use crate::comparisons::{left_step, same};
-use crate::judgements::{begun, number};
-use crate::worked::{compared, front, is_assumption, is_begun, is_definition, is_sort, judged};
 use pts_check::{Verdict, check};
 use pts_ctx::{Context, System};
 use pts_grow::{RuleSorts, add_app, add_conv, add_lam, add_let, add_letsort, add_pi};
 use pts_record::{Record, Shape};
 use pts_samples::simple;
+use pts_worked::{
+    begun, compared, front, is_assumption, is_begun, is_definition, is_sort, judged, number,
+};
 use std::alloc::Global;
 
 // `A -> A : *`
