@@ -1,1 +1,1 @@
-mod Constants
+pub mod Constants
