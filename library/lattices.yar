@@ -1,0 +1,36 @@
+yarrow-module 1
+module lattices
+uses logic
+uses equality
+uses relations
+uses orders
+
+% A join of an order: j x y is the least of what is at least x and at least y.
+define join : @A:*. (A -> A -> *) -> (A -> A -> A) -> * := \A:*. \R:A -> A -> *. \j:A -> A -> A. @x:A. @y:A. logic.and (R x (j x y)) (logic.and (R y (j x y)) (@z:A. R x z -> R y z -> R (j x y) z))
+define join_left : @A:*. @R:A -> A -> *. @j:A -> A -> A. join A R j -> @x:A. @y:A. R x (j x y) := \A:*. \R:A -> A -> *. \j:A -> A -> A. \h:join A R j. \x:A. \y:A. logic.first (R x (j x y)) (logic.and (R y (j x y)) (@z:A. R x z -> R y z -> R (j x y) z)) (h x y)
+define join_right : @A:*. @R:A -> A -> *. @j:A -> A -> A. join A R j -> @x:A. @y:A. R y (j x y) := \A:*. \R:A -> A -> *. \j:A -> A -> A. \h:join A R j. \x:A. \y:A. logic.first (R y (j x y)) (@z:A. R x z -> R y z -> R (j x y) z) (logic.second (R x (j x y)) (logic.and (R y (j x y)) (@z:A. R x z -> R y z -> R (j x y) z)) (h x y))
+define join_least : @A:*. @R:A -> A -> *. @j:A -> A -> A. join A R j -> @x:A. @y:A. @z:A. R x z -> R y z -> R (j x y) z := \A:*. \R:A -> A -> *. \j:A -> A -> A. \h:join A R j. \x:A. \y:A. logic.second (R y (j x y)) (@z:A. R x z -> R y z -> R (j x y) z) (logic.second (R x (j x y)) (logic.and (R y (j x y)) (@z:A. R x z -> R y z -> R (j x y) z)) (h x y))
+
+% Its laws.
+define join_idem : @A:*. @R:A -> A -> *. orders.order A R -> @j:A -> A -> A. join A R j -> @x:A. equality.eq A (j x x) x := \A:*. \R:A -> A -> *. \o:orders.order A R. \j:A -> A -> A. \h:join A R j. \x:A. orders.anti A R o (j x x) x (join_least A R j h x x x (orders.refl A R o x) (orders.refl A R o x)) (join_left A R j h x x)
+define join_comm : @A:*. @R:A -> A -> *. orders.order A R -> @j:A -> A -> A. join A R j -> @x:A. @y:A. equality.eq A (j x y) (j y x) := \A:*. \R:A -> A -> *. \o:orders.order A R. \j:A -> A -> A. \h:join A R j. \x:A. \y:A. orders.anti A R o (j x y) (j y x) (join_least A R j h x y (j y x) (join_right A R j h y x) (join_left A R j h y x)) (join_least A R j h y x (j x y) (join_right A R j h x y) (join_left A R j h x y))
+define join_up : @A:*. @R:A -> A -> *. orders.order A R -> @j:A -> A -> A. join A R j -> @x:A. @y:A. @z:A. R (j (j x y) z) (j x (j y z)) := \A:*. \R:A -> A -> *. \o:orders.order A R. \j:A -> A -> A. \h:join A R j. \x:A. \y:A. \z:A. join_least A R j h (j x y) z (j x (j y z)) (join_least A R j h x y (j x (j y z)) (join_left A R j h x (j y z)) (orders.trans A R o y (j y z) (j x (j y z)) (join_left A R j h y z) (join_right A R j h x (j y z)))) (orders.trans A R o z (j y z) (j x (j y z)) (join_right A R j h y z) (join_right A R j h x (j y z)))
+define join_down : @A:*. @R:A -> A -> *. orders.order A R -> @j:A -> A -> A. join A R j -> @x:A. @y:A. @z:A. R (j x (j y z)) (j (j x y) z) := \A:*. \R:A -> A -> *. \o:orders.order A R. \j:A -> A -> A. \h:join A R j. \x:A. \y:A. \z:A. join_least A R j h x (j y z) (j (j x y) z) (orders.trans A R o x (j x y) (j (j x y) z) (join_left A R j h x y) (join_left A R j h (j x y) z)) (join_least A R j h y z (j (j x y) z) (orders.trans A R o y (j x y) (j (j x y) z) (join_right A R j h x y) (join_left A R j h (j x y) z)) (join_right A R j h (j x y) z))
+define join_assoc : @A:*. @R:A -> A -> *. orders.order A R -> @j:A -> A -> A. join A R j -> @x:A. @y:A. @z:A. equality.eq A (j (j x y) z) (j x (j y z)) := \A:*. \R:A -> A -> *. \o:orders.order A R. \j:A -> A -> A. \h:join A R j. \x:A. \y:A. \z:A. orders.anti A R o (j (j x y) z) (j x (j y z)) (join_up A R o j h x y z) (join_down A R o j h x y z)
+define join_most : @A:*. @R:A -> A -> *. orders.order A R -> @j:A -> A -> A. join A R j -> @x:A. @y:A. logic.iff (R x y) (equality.eq A (j x y) y) := \A:*. \R:A -> A -> *. \o:orders.order A R. \j:A -> A -> A. \h:join A R j. \x:A. \y:A. logic.both (R x y -> equality.eq A (j x y) y) (equality.eq A (j x y) y -> R x y) (\r:R x y. orders.anti A R o (j x y) y (join_least A R j h x y y r (orders.refl A R o y)) (join_right A R j h x y)) (\e:equality.eq A (j x y) y. e (R x) (join_left A R j h x y))
+
+% A meet is a join of the converse order, so its laws are those of joins.
+define meet : @A:*. (A -> A -> *) -> (A -> A -> A) -> * := \A:*. \R:A -> A -> *. join A (relations.converse A R)
+define meet_idem : @A:*. @R:A -> A -> *. orders.order A R -> @m:A -> A -> A. meet A R m -> @x:A. equality.eq A (m x x) x := \A:*. \R:A -> A -> *. \o:orders.order A R. join_idem A (relations.converse A R) (orders.dual A R o)
+define meet_comm : @A:*. @R:A -> A -> *. orders.order A R -> @m:A -> A -> A. meet A R m -> @x:A. @y:A. equality.eq A (m x y) (m y x) := \A:*. \R:A -> A -> *. \o:orders.order A R. join_comm A (relations.converse A R) (orders.dual A R o)
+define meet_assoc : @A:*. @R:A -> A -> *. orders.order A R -> @m:A -> A -> A. meet A R m -> @x:A. @y:A. @z:A. equality.eq A (m (m x y) z) (m x (m y z)) := \A:*. \R:A -> A -> *. \o:orders.order A R. join_assoc A (relations.converse A R) (orders.dual A R o)
+
+% A lattice is an order that has both, and each absorbs the other. What holds of a lattice holds of its dual.
+define lattice : @A:*. (A -> A -> *) -> (A -> A -> A) -> (A -> A -> A) -> * := \A:*. \R:A -> A -> *. \j:A -> A -> A. \m:A -> A -> A. logic.and (orders.order A R) (logic.and (join A R j) (meet A R m))
+define is_order : @A:*. @R:A -> A -> *. @j:A -> A -> A. @m:A -> A -> A. lattice A R j m -> orders.order A R := \A:*. \R:A -> A -> *. \j:A -> A -> A. \m:A -> A -> A. logic.first (orders.order A R) (logic.and (join A R j) (meet A R m))
+define has_join : @A:*. @R:A -> A -> *. @j:A -> A -> A. @m:A -> A -> A. lattice A R j m -> join A R j := \A:*. \R:A -> A -> *. \j:A -> A -> A. \m:A -> A -> A. \l:lattice A R j m. logic.first (join A R j) (meet A R m) (logic.second (orders.order A R) (logic.and (join A R j) (meet A R m)) l)
+define has_meet : @A:*. @R:A -> A -> *. @j:A -> A -> A. @m:A -> A -> A. lattice A R j m -> meet A R m := \A:*. \R:A -> A -> *. \j:A -> A -> A. \m:A -> A -> A. \l:lattice A R j m. logic.second (join A R j) (meet A R m) (logic.second (orders.order A R) (logic.and (join A R j) (meet A R m)) l)
+define dual : @A:*. @R:A -> A -> *. @j:A -> A -> A. @m:A -> A -> A. lattice A R j m -> lattice A (relations.converse A R) m j := \A:*. \R:A -> A -> *. \j:A -> A -> A. \m:A -> A -> A. \l:lattice A R j m. logic.both (orders.order A (relations.converse A R)) (logic.and (meet A R m) (join A R j)) (orders.dual A R (is_order A R j m l)) (logic.both (meet A R m) (join A R j) (has_meet A R j m l) (has_join A R j m l))
+define absorb_join : @A:*. @R:A -> A -> *. @j:A -> A -> A. @m:A -> A -> A. lattice A R j m -> @x:A. @y:A. equality.eq A (j x (m x y)) x := \A:*. \R:A -> A -> *. \j:A -> A -> A. \m:A -> A -> A. \l:lattice A R j m. \x:A. \y:A. orders.anti A R (is_order A R j m l) (j x (m x y)) x (join_least A R j (has_join A R j m l) x (m x y) x (orders.refl A R (is_order A R j m l) x) (join_left A (relations.converse A R) m (has_meet A R j m l) x y)) (join_left A R j (has_join A R j m l) x (m x y))
+define absorb_meet : @A:*. @R:A -> A -> *. @j:A -> A -> A. @m:A -> A -> A. lattice A R j m -> @x:A. @y:A. equality.eq A (m x (j x y)) x := \A:*. \R:A -> A -> *. \j:A -> A -> A. \m:A -> A -> A. \l:lattice A R j m. absorb_join A (relations.converse A R) m j (dual A R j m l)
+end
