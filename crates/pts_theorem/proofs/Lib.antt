@@ -1,0 +1,4 @@
+pub mod Opened
+pub mod Staying
+pub mod Made
+pub mod Agreeing
