@@ -34,26 +34,6 @@ fn offered(alloc: Global, core: &Core, draft: &Draft) -> Option<Examined>
     }
 }
 
-// The same by the draft itself, which knows that its offer is sound.
-fn examined(core: &Core, draft: &mut Draft) -> Option<Examined>
-    requires { draft.old.system ≡ core.now.system }
-    ensures { IfSome result (λ x. MaySubmit x core.now) }
-{
-    let Ok(offer) = draft.offer() else {
-        return None;
-    };
-    if let Some(_) = first_inner(offer.declarations.items()) {
-        return None;
-    }
-    if !offer.front.is_front_of(core.context()) {
-        return None;
-    }
-    match draft.examined(core.system()) {
-        Ok(examined) => Some(examined),
-        Err(_) => None,
-    }
-}
-
 // The reply in an answer.
 fn reply_of(answer: Answer) -> Reply {
     let Answer { receipt, .. } = answer;
@@ -67,14 +47,6 @@ pub fn submit(alloc: Global, core: &mut Core, draft: &Draft) -> Option<Reply>
     ensures { core.new.system ≡ core.old.system }
 {
     let examined = offered(alloc, core, draft)?;
-    reply_to(core, examined)
-}
-
-// The reply of a core to what was examined.
-fn reply_to(core: &mut Core, examined: Examined) -> Option<Reply>
-    requires { MaySubmit examined core.old }
-    ensures { core.new.system ≡ core.old.system }
-{
     match core.answer_submit(1, examined) {
         Ok(answer) => Some(reply_of(answer)),
         Err(_) => None,
@@ -109,9 +81,8 @@ fn an_offer_has_the_front_and_the_declarations(rt: HostRuntime) {
 
 fn enters_once(alloc: Global) -> Option<bool> {
     let mut core = empty(alloc)?;
-    let mut draft = filled(alloc, core.system())?;
-    let examined = examined(&core, &mut draft)?;
-    let first = reply_to(&mut core, examined)?;
+    let draft = filled(alloc, core.system())?;
+    let first = submit(alloc, &mut core, &draft)?;
     let second = submit(alloc, &mut core, &draft)?;
     Some(is_committed(&first, 2) && is_clash(&second, "a") && core.context().len() == 2)
 }
