@@ -74,17 +74,17 @@ clear_stays : (a b : Tables) (p : Subterm) → Keeps a b → IsClear a.shapes p 
 clear_stays a b p k h = (stays a b p.term k h.0, h.1, ap (is_clear 0 p.binders) (tree_stays a b p.term k h.0) ∙ h.2)
 
 clear_stay : (a b : Tables) (ps : List (Option Subterm)) → Keeps a b → AreClear a.shapes ps → AreClear b.shapes ps
-clear_stay a b [] k h = All-nil _
-clear_stay a b (None ∷ ps) k h = All-cons _ None ps tt (clear_stay a b ps k (All-tail _ None ps h))
-clear_stay a b (Some p ∷ ps) k h = All-cons _ (Some p) ps (clear_stays a b p k (All-head _ (Some p) ps h)) (clear_stay a b ps k (All-tail _ (Some p) ps h))
+clear_stay a b [] k h = All-nil (λ o. IfSome o (IsClear b.shapes))
+clear_stay a b (None ∷ ps) k h = All-cons (λ o. IfSome o (IsClear b.shapes)) None ps tt (clear_stay a b ps k (All-tail (λ o. IfSome o (IsClear a.shapes)) None ps h))
+clear_stay a b (Some p ∷ ps) k h = All-cons (λ o. IfSome o (IsClear b.shapes)) (Some p) ps (clear_stays a b p k (All-head (λ o. IfSome o (IsClear a.shapes)) (Some p) ps h)) (clear_stay a b ps k (All-tail (λ o. IfSome o (IsClear a.shapes)) (Some p) ps h))
 
 pub value_stays : (a b : Tables) (p : Subterm) → Keeps a b → IsClear a.shapes p → value_of b.shapes p ≡ value_of a.shapes p
 value_stays a b p k h = ap (lower 0 p.binders) (tree_stays a b p.term k h.0)
 
 pub values_stay : (a b : Tables) (ps : List (Option Subterm)) → Keeps a b → AreClear a.shapes ps → values_of b.shapes ps ≡ values_of a.shapes ps
 values_stay a b [] k h = refl
-values_stay a b (None ∷ ps) k h = ap (λ s. None ∷ s) (values_stay a b ps k (All-tail _ _ ps h))
-values_stay a b (Some p ∷ ps) k h = ap (λ t. Some t ∷ values_of b.shapes ps) (value_stays a b p k (All-head _ (Some p) ps h)) ∙ ap (λ s. Some (value_of a.shapes p) ∷ s) (values_stay a b ps k (All-tail _ _ ps h))
+values_stay a b (None ∷ ps) k h = ap (λ s. None ∷ s) (values_stay a b ps k (All-tail (λ o. IfSome o (IsClear a.shapes)) _ ps h))
+values_stay a b (Some p ∷ ps) k h = ap (λ t. Some t ∷ values_of b.shapes ps) (value_stays a b p k (All-head (λ o. IfSome o (IsClear a.shapes)) (Some p) ps h)) ∙ ap (λ s. Some (value_of a.shapes p) ∷ s) (values_stay a b ps k (All-tail (λ o. IfSome o (IsClear a.shapes)) _ ps h))
 
 pub found_later : {a b : Work} {k : ℕ} {ps : List (Option Subterm)} → Grown a b → AreFound a k ps → AreFound b k ps
 found_later {a} {b} {k} {ps} g h = record { clear = clear_stay a.proof.now b.proof.now ps g.keeps h.clear; length = h.length }

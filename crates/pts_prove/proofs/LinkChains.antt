@@ -1,7 +1,7 @@
 -- The arguments of a function, one after the other, and the whole command.
 use Rattle.std.proofs.Common.{◌≡◌, ℕ, zero, suc, ◌+◌, ◌<◌, ◌≤◌, List, [], ◌∷◌, ◌++◌, length, map, drop, reverse, Option, Some, None, Bool, true, false, Result, Ok, Err, refl, sym, ap, ap₂, ◌∙◌, subst, arith}
 use Rattle.std.specs.Global.{Vec}
-use Rattle.std.specs.Prelude.{pred, slice_index_or, if◌then◌else◌}
+use Rattle.std.specs.Prelude.{pred, IfSome, slice_index_or, if◌then◌else◌}
 use Rattle.std.specs.Option.{option_map}
 use Rattle.std.specs.Result.{IsErr, IsErrAnd}
 use Rattle.std.proofs.lemmas.List.{reverse-append, map_push, drop_all}
@@ -129,7 +129,7 @@ map_snoc r (m ∷ ls) l = ap (λ xs. argument_of r m.argument ∷ xs) (map_snoc 
 
 -- No argument is left.
 module _ {a : Work} {p : Place} {t i : ℕ} {ps : List (Option Subterm)} {ls : Vec Link} (e : i ≡ length ps) where
-  nothing_left : {b : Bool} → b ≡ same_term (bare_at a.proof.now.shapes t) (bare_at a.proof.now.shapes p.statement) → Free {F = _} (if b then comes (arguments_in a ls.items) else typing.stops (typing.by_flaw (no_match i))) ≡ applying_all a p t (drop i ps) (i + 1) ls.items
+  nothing_left : {b : Bool} → b ≡ same_term (bare_at a.proof.now.shapes t) (bare_at a.proof.now.shapes p.statement) → Free (if b then comes (arguments_in a ls.items) else typing.stops (typing.by_flaw (no_match i))) ≡ applying_all a p t (drop i ps) (i + 1) ls.items
   nothing_left {b} h =
       let r = a.proof.now.shapes in
       let x = drop_all i ps (omega (arith, e)) in
@@ -149,27 +149,27 @@ module _ {a : Work} {p : Place} {t i : ℕ} {ps : List (Option Subterm)} {ls : V
       hands l (comes_to (nothing_left (sym h.1)) s)
 
 -- One argument more.
-module _ {a b : Work} {p : Place} {t first i : ℕ} {ps : List (Option Subterm)} {ls : List Link} (h : i < length ps) where
-  one_left : {n : ℕ} → n ≡ i + 1 → takes_arguments a.system.now a.front.now.entries (entries_of a.proof.now p.ctx) (term_in a p.statement) n (term_in a t) (values_of a.proof.now.shapes (slice_index_or ps i None ∷ drop (suc i) ps)) (arguments_in a ls) ≡ applying_all a p t (drop i ps) (i + 1) ls
-  one_left e = rw e (ap (λ qs. applying_all a p t qs (i + 1) ls) (sym (first_of_rest ps i h)))
+module _ {a b : Work} {p : Place} {t i : ℕ} {ps : List (Option Subterm)} {ls : List Link} (h : i < length ps) where
+  one_left : takes_arguments a.system.now a.front.now.entries (entries_of a.proof.now p.ctx) (term_in a p.statement) (i + 1) (term_in a t) (values_of a.proof.now.shapes (slice_index_or ps i None ∷ drop (suc i) ps)) (arguments_in a ls) ≡ applying_all a p t (drop i ps) (i + 1) ls
+  one_left = ap (λ qs. applying_all a p t qs (i + 1) ls) (sym (first_of_rest ps i h))
 
   pub next_stops : {r : Result (Vec Link) ProveFault} {e : ProveFault} → IsErr r × IsErrAnd r (λ y. y ≡ e) → Came a b (link_in b) (Err e) (applying_next a p.ctx t (slice_index_or ps i None) (i + 1)) → Came a b (λ (ls : Vec Link). arguments_in b ls.items) r (applying_all a p t (drop i ps) (i + 1) ls)
-  next_stops l v = comes_to (one_left refl) (stops _ l v)
+  next_stops l v = comes_to one_left (stops _ l v)
 
-  pub next_goes_on : {d : Work} {l : Link} {ms : List Link} {j : ℕ} {r : Result (Vec Link) ProveFault} → j ≡ i + 1 → Grown a b → IsAsked a p → AreFound a (length ps) ps → IsChain a p.ctx first t ls → ms ≡ ls ++ l ∷ [] → Came a b (link_in b) (Ok l) (applying_next a p.ctx t (slice_index_or ps i None) (i + 1)) → Came b d (λ (ls : Vec Link). arguments_in d ls.items) r (applying_all b p l.after (drop j ps) (j + 1) ms) → Came a d (λ (ls : Vec Link). arguments_in d ls.items) r (applying_all a p t (drop i ps) (i + 1) ls)
-  next_goes_on {d} {l} {ms} {j} {r} k g q f c e v u =
+  pub next_goes_on : {d : Work} {l : Link} {ms : List Link} {first j : ℕ} {r : Result (Vec Link) ProveFault} → j ≡ i + 1 → Grown a b → IsAsked a p → AreFound a (length ps) ps → IsChain a p.ctx first t ls → ms ≡ ls ++ l ∷ [] → Came a b (link_in b) (Ok l) (applying_next a p.ctx t (slice_index_or ps i None) (i + 1)) → Came b d (λ (ls : Vec Link). arguments_in d ls.items) r (applying_all b p l.after (drop j ps) (j + 1) ms) → Came a d (λ (ls : Vec Link). arguments_in d ls.items) r (applying_all a p t (drop i ps) (i + 1) ls)
+  next_goes_on {d} {l} {ms} {first} {j} {r} k g q f c e v u =
       let s = g.system in
       let y = g.front in
       let x1 = entries_stay a.proof.now b.proof.now p.ctx g.keeps q.place.there in
       let x2 = term_stays g q.statement in
-      let x3 = values_stay a.proof.now b.proof.now (drop j ps) g.keeps (All-drop _ j ps f.clear) in
+      let x3 = values_stay a.proof.now b.proof.now (drop j ps) g.keeps (All-drop (λ o. IfSome o (IsClear a.proof.now.shapes)) j ps f.clear) in
       let x4 : arguments_in b ms ≡ arguments_in a ls ++ (link_in b l).0 ∷ [] = ap (arguments_in b) e ∙ map_snoc b.proof.now ls l ∙ ap (λ xs. xs ++ (link_in b l).0 ∷ []) (arguments_stay a.proof.now b.proof.now g.keeps (some_goal p.ctx t) first ls (c.links (some_goal p.ctx t) refl refl)) in
       let z : applying_all b p l.after (drop j ps) (j + 1) ms ≡ takes_arguments a.system.now a.front.now.entries (entries_of a.proof.now p.ctx) (term_in a p.statement) (j + 1) (link_in b l).1 (values_of a.proof.now.shapes (drop j ps)) (arguments_in a ls ++ (link_in b l).0 ∷ []) = rw (s, y, x1, x2, x3, x4) refl in
       let w : j + 1 ≡ suc (i + 1) = ap (λ n. n + 1) k ∙ omega arith in
       let o : drop j ps ≡ drop (suc i) ps = ap (λ n. drop n ps) (k ∙ omega arith) in
       let m = ap (λ n. takes_arguments a.system.now a.front.now.entries (entries_of a.proof.now p.ctx) (term_in a p.statement) n (link_in b l).1 (values_of a.proof.now.shapes (drop j ps)) (arguments_in a ls ++ (link_in b l).0 ∷ [])) w
           ∙ ap (λ qs. takes_arguments a.system.now a.front.now.entries (entries_of a.proof.now p.ctx) (term_in a p.statement) (suc (i + 1)) (link_in b l).1 (values_of a.proof.now.shapes qs) (arguments_in a ls ++ (link_in b l).0 ∷ [])) o in
-      comes_to (one_left refl) (goes_on _ (one_next a.system.now a.front.now.entries (entries_of a.proof.now p.ctx) (i + 1) (term_in a t) (part_in a (slice_index_or ps i None))) v (comes_to (z ∙ m) u))
+      comes_to one_left (goes_on _ (one_next a.system.now a.front.now.entries (entries_of a.proof.now p.ctx) (i + 1) (term_in a t) (part_in a (slice_index_or ps i None))) v (comes_to (z ∙ m) u))
 
 values_reversed : (ss : List Shape) (ps : List (Option Subterm)) → values_of ss (reverse ps) ≡ reverse (values_of ss ps)
 values_reversed ss [] = refl
@@ -187,7 +187,7 @@ clear_reversed : (ss : List Shape) (ps : List (Option Subterm)) → AreClear ss 
 clear_reversed ss [] h = h
 clear_reversed ss (o ∷ ps) h =
     subst (AreClear ss) (sym (reverse-append (o ∷ []) ps))
-    (All-append _ (reverse ps) (o ∷ []) (clear_reversed ss ps (All-tail _ o ps h)) (All-cons _ o [] (All-head _ o ps h) (All-nil _)))
+    (All-append (λ o. IfSome o (IsClear ss)) (reverse ps) (o ∷ []) (clear_reversed ss ps (All-tail (λ o. IfSome o (IsClear ss)) o ps h)) (All-cons (λ o. IfSome o (IsClear ss)) o [] (All-head (λ o. IfSome o (IsClear ss)) o ps h) (All-nil (λ o. IfSome o (IsClear ss)))))
 
 pub found_reversed : {w : Work} {k n : ℕ} (ps qs : List (Option Subterm)) → qs ≡ reverse ps → AreFound w k ps → n ≡ length qs → AreFound w n qs
 found_reversed {w} {k} {n} ps qs e h l = record { clear = subst (AreClear w.proof.now.shapes) (sym e) (clear_reversed w.proof.now.shapes ps h.clear); length = sym l }

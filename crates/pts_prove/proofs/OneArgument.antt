@@ -25,7 +25,7 @@ use Rattle.pts_goals.specs.Steps.{ReducesTo}
 use Rattle.pts_goals.proofs.Kept.{still_same, still_sorts}
 use Rattle.pts_prove_cost.specs.Combining.{Free}
 use Rattle.pts_prove_cost.specs.Refinement.{Argument, given, asked}
-use Rattle.pts_prove_cost.specs.Commands.{Refusal, of_goal, not_product, undetermined, limited, Opened, form_opens, opens_as, function_opens, asks_argument, takes_argument}
+use Rattle.pts_prove_cost.specs.Commands.{Refusal, of_goal, not_product, undetermined, limited, Opened, opened, form_opens, opens_as, function_opens, asks_argument, takes_argument}
 use Rattle.pts_prove_cost.proofs.OneOutcome.{one_form, one_opening_as, one_free, one_sorted, one_inferred, one_fitted, one_function}
 use Rattle.pts_prove.specs.declared.fault.ProveFault.{ProveFault}
 use Rattle.pts_prove.specs.declared.work.Work.{Work}
@@ -73,9 +73,7 @@ pub is_function : {w : Work} {c : ℕ} {p : Product} → IsPlace w c → HasProd
 is_function h q = record { place = h; ty = q.term; product = q; change = bare_product q }
 
 pub function_stands : {a : Work} {p : Product} (c t : ℕ) → as_product (term_in a t) ≡ Some (term_in a p.domain, term_in a p.body) → p.term ≡ t → Came a a (function_in a) (Ok (record { product = p; change = None })) (opening_function a c t (as_product (term_in a t)))
-function_stands {a} {p} c t e h =
-    let z : record { product = term_in a p.term; domain = term_in a p.domain; body = term_in a p.body } ≡ (record { product = term_in a t; domain = term_in a p.domain; body = term_in a p.body } : Opened) = ap (λ n. record { product = term_in a n; domain = term_in a p.domain; body = term_in a p.body }) h in
-    comes_to (ap (opening_function a c t) (sym e)) (ended _ z)
+function_stands {a} {p} c t e h = comes_to (ap (opening_function a c t) (sym e)) (ended (opened (term_in a t) (term_in a p.domain, term_in a p.body)) (ap (λ n. opened (term_in a n) (term_in a p.domain, term_in a p.body)) h))
 
 pub function_by_form : {a b : Work} {r : Result Function ProveFault} (c t : ℕ) → as_product (term_in a t) ≡ None → Came a b (function_in b) r (opening_function a c t None) → Came a b (function_in b) r (opening_function a c t (as_product (term_in a t)))
 function_by_form {a} c t e w = comes_to (ap (opening_function a c t) (sym e)) w
@@ -121,9 +119,9 @@ is_reduced_function {a} {b} {d} {c} {t} {o} {p} {s} g k h q j e m i =
 -- A function whose type reduced to a product, later.
 changed_later : (a b : Tables) (k : Keeps a b) (c t A B : ℕ) (d : Option Reduction) → c < length a.nodes → t < length a.shapes → A < length a.shapes → B < length a.shapes → ReducesTo a c (bare_at a.shapes t) (pi (bare_at a.shapes A) (bare_at a.shapes B)) d → ReducesTo b c (bare_at b.shapes t) (pi (bare_at b.shapes A) (bare_at b.shapes B)) d
 changed_later a b k c t A B None h p q s e = bare_stays a b t k p ∙ e ∙ ap₂ pi (sym (bare_stays a b A k q)) (sym (bare_stays a b B k s))
-changed_later a b k c t A B (Some d) h p q s m =
+changed_later a b k c t A B (Some d) h p q s (m, e, o, x, y) =
     let u = ap₂ pi (sym (bare_stays a b A k q)) (sym (bare_stays a b B k s)) in
-    (still_sorts a b k c d.sorted h m.0, bare_stays a b d.sorted.subject k m.0.0.0 ∙ m.1 ∙ u, still_compares a b c d.compared k h m.2, still_same a b k d.compared.left t m.2.0 p m.3, bare_stays a b d.compared.right k m.2.1 ∙ m.4 ∙ u)
+    (still_sorts a b k c d.sorted h m, bare_stays a b d.sorted.subject k m.0.0 ∙ e ∙ u, still_compares a b c d.compared k h o, still_same a b k d.compared.left t o.0 p x, bare_stays a b d.compared.right k o.1 ∙ y ∙ u)
 
 pub function_later : {a b : Work} {c t : ℕ} {f : Function} → Grown a b → IsFunction a c t f → IsFunction b c t f
 function_later {a} {b} {c} {t} {f} g h = record {
@@ -137,11 +135,11 @@ pub function_product : {w : Work} {c t : ℕ} {f : Function} → IsFunction w c 
 function_product h = h.product
 
 -- A term that is given.
-module _ {a b : Work} {p : Product} {j : Judged} (c t : ℕ) (h : IsPlace a c) (q : HasProduct a p) (x : HasTerm a t) where
+module _ {a b : Work} {p : Product} (c t : ℕ) (h : IsPlace a c) (q : HasProduct a p) (x : HasTerm a t) where
   pub give_uninferred : {r : Result Application ProveFault} {e : ProveFault} → IsErr r × IsErrAnd r (λ y. y ≡ e) → Came a b (claim_in b) (Err e) (inferring a c GoalPart t) → Came a b (application_in b) r (giving a c p (term_in a t))
   give_uninferred i v = stops _ i v
 
-  module _ (g : Grown a b) (v : Came a b (claim_in b) (Ok j) (inferring a c GoalPart t)) where
+  module _ {j : Judged} (g : Grown a b) (v : Came a b (claim_in b) (Ok j) (inferring a c GoalPart t)) where
     pub give_unfitted : {d : Work} {r : Result Application ProveFault} {e : ProveFault} → IsErr r × IsErrAnd r (λ y. y ≡ e) → Came b d (λ (j : Judged). tt) (Err e) (fitting b c GoalPart j.claim p.domain) → Came a d (application_in d) r (giving a c p (term_in a t))
     give_unfitted i u =
         goes_on _ (one_inferred a.system.now a.front.now.entries (entries_of a.proof.now c) of_goal (term_in a t)) v (
@@ -168,12 +166,12 @@ module _ {a b : Work} {p : Product} {j : Judged} (c t : ℕ) (h : IsPlace a c) (
           goes_on _ (one_free _) (comes_to instance_since w) (
           ended (given (term_in a t), term_in m n) (ap (λ u. (given u, term_in m n)) y))))
 
-pub is_given : {a d m : Work} {c t n : ℕ} {p : Product} {f : Judged} → Grown a d → Grown d m → HasProduct a p → HasTerm a t → IsFitted m c t p.domain f → IsNumberOf m n (subst_term 0 (term_in d t) (term_in d p.body)) → IsApplied m c p (record { argument = Given f; after = n })
-is_given {a} {d} {m} {c} {t} {n} {p} {f} g l q x i e =
+pub is_given : {a d m : Work} {c t u n : ℕ} {p : Product} {f : Judged} → Grown a d → Grown d m → HasProduct a p → HasTerm a t → u ≡ t → IsFitted m c u p.domain f → IsNumberOf m n (subst_term 0 (term_in d t) (term_in d p.body)) → IsApplied m c p (record { argument = Given f; after = n })
+is_given {a} {d} {m} {c} {t} {u} {n} {p} {f} g l q x o i e =
     let r = m.proof.now.shapes in
     let k = grown_trans g l in
     let y : term_in m n ≡ subst_term 0 (term_in m t) (term_in m p.body) = e.is ∙ ap₂ (subst_term 0) (sym (term_stays l (term_later g x))) (sym (term_stays l (product_later g q).body)) in
-    let z : bare_at r n ≡ subst_term 0 (bare_at r f.subject) (bare_at r p.body) = plain r n _ y ∙ bare_put 0 0 (term_in m t) (term_in m p.body) ∙ ap₂ (subst_term 0) (sym (plain r t _ refl) ∙ ap (bare_at r) (sym i.judged.subject)) (sym (plain r p.body _ refl)) in
+    let z : bare_at r n ≡ subst_term 0 (bare_at r f.subject) (bare_at r p.body) = plain r n _ y ∙ bare_put 0 0 (term_in m t) (term_in m p.body) ∙ ap₂ (subst_term 0) (sym (plain r t _ refl) ∙ ap (bare_at r) (sym (i.judged.subject ∙ o))) (sym (plain r p.body _ refl)) in
     record { place = i.judged.place; product = product_later k q; after = e.term; argument = (i.judged.judges, ap (bare_at r) i.claim, z) }
 
 -- A part of the goal, taken out of its binders.
@@ -226,11 +224,11 @@ part_stays None g h = refl
 part_stays {a} {b} (Some s) g h = ap Some (value_stays a.proof.now b.proof.now s g.keeps h.clear)
 
 -- The function, and then its argument.
-module _ {a b : Work} {f : Function} (c t i : ℕ) (o : Option Subterm) where
+module _ {a b : Work} (c t i : ℕ) (o : Option Subterm) where
   pub next_closed : {r : Result Link ProveFault} {e : ProveFault} → IsErr r × IsErrAnd r (λ x. x ≡ e) → Came a b (function_in b) (Err e) (opening_function a c t (as_product (term_in a t))) → Came a b (link_in b) r (applying_next a c t o i)
   next_closed l v = stops _ l v
 
-  module _ (h : IsPlace a c) (x : IsFound a o) (g : Grown a b) (v : Came a b (function_in b) (Ok f) (opening_function a c t (as_product (term_in a t)))) where
+  module _ {f : Function} (h : IsPlace a c) (x : IsFound a o) (g : Grown a b) (v : Came a b (function_in b) (Ok f) (opening_function a c t (as_product (term_in a t)))) where
     applying_since : applying b c f.product o i ≡ takes_argument a.system.now a.front.now.entries (entries_of a.proof.now c) i (function_in b f) (part_in a o)
     applying_since =
         let s = g.system in
