@@ -1,4 +1,2 @@
 pub mod Places
-pub mod Threads
-pub mod Written
 pub mod Sending

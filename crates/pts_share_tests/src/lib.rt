@@ -8,9 +8,5 @@ mod beside;
 mod counts;
 #[cfg(test)]
 mod crossing;
-#[cfg(test)]
-mod pairs;
-#[cfg(test)]
-mod turns;
 
 pub use beside::looked;
