@@ -22,7 +22,11 @@ pub(crate) fn copies_of(
     Ok(copies)
 }
 
-fn copy_of(alloc: Global, declaration: &Declaration) -> Result<Declaration, AllocError>
+/// The same declaration again, with its record.
+pub(crate) fn copy_of(
+    alloc: Global,
+    declaration: &Declaration,
+) -> Result<Declaration, AllocError>
     ensures { IfOk result (λ d. d ≡ declaration.now) }
 {
     let body = match &declaration.body {
