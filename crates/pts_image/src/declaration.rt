@@ -23,16 +23,26 @@ pub fn rename_declaration<N: Names>(
     ensures ty { IfOk result (λ d. named d.ty ≡ renamed_term (N.new_name names.now) (named declaration.ty)) }
     ensures proof { IfOk result (λ d. d.proof ≡ renamed_record (N.new_name names.now) declaration.proof) }
 {
-    let body = match &declaration.body {
-        Some(body) => Some(rename_term(alloc, body, names)?),
-        None => None,
-    };
+    let Declaration { name, body, ty, proof } = declaration;
     Ok(Declaration {
-        name: names.new_name(&declaration.name)?,
-        body,
-        ty: rename_term(alloc, &declaration.ty, names)?,
-        proof: declaration.proof.renamed(names)?,
+        name: names.new_name(&name)?,
+        body: rename_body(alloc, &body, names)?,
+        ty: rename_term(alloc, &ty, names)?,
+        proof: proof.renamed(names)?,
     })
+}
+
+fn rename_body<N: Names>(
+    alloc: Global,
+    body: &Option<Term>,
+    names: &N,
+) -> Result<Option<Term>, AllocError>
+    ensures { IfOk result (λ b. option_map named b ≡ option_map (renamed_term (N.new_name names.now)) (option_map named body.now)) }
+{
+    match body {
+        Some(body) => Ok(Some(rename_term(alloc, body, names)?)),
+        None => Ok(None),
+    }
 }
 
 /// The same term with the new names of its constants. The printed names of binders stay.
