@@ -26,6 +26,7 @@ pub use pts_core::{Answer, Examined, PortFault};
 pub use pts_names::Text;
 pub use pts_play::Local;
 pub use request::{Awaited, Request};
-pub use session::{BUDGET, Session};
+pub use pts_workspace::BUDGET;
+pub use session::Session;
 pub use table::CoreTable;
 pub use world::World;
