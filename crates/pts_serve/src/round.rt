@@ -67,8 +67,13 @@ pub fn serve_round<R: Threads + Wait + Sync, G: Gate + Sync, W: Sync, C: Client<
     run_round(rt, workers.as_mut_slice(), gate);
     let ended = dismiss(workers, &mut passes, &mut after);
     let core = shared.close(passes);
-    let staff = if ended { Some(after) } else { None };
-    Ok(Served { core, staff })
+    if !ended {
+        return Ok(Served { core, staff: None });
+    }
+    Ok(Served {
+        core,
+        staff: Some(after),
+    })
 }
 
 // The numbers of the sessions, in order.
@@ -126,6 +131,13 @@ fn hire<'a, W, C>(
     staff.destroy_empty();
 }
 
+// Whether both hold.
+fn both(a: bool, b: bool) -> bool
+    ensures { result ≡ true → (a ≡ true) × (b ≡ true) }
+{
+    a && b
+}
+
 // The passes and the sessions, from the last worker to the first, and whether each came to its end.
 fn dismiss<'a, W, C>(
     workers: Vec<SessionWorker<'a, W, C>>,
@@ -134,10 +146,10 @@ fn dismiss<'a, W, C>(
 ) -> bool
     requires none { (passes.old.items ≡ []) × (staff.old.items ≡ []) }
     requires room { (length workers.items ≤ vec_capacity passes.old) × (length workers.items ≤ vec_capacity staff.old) }
-    ensures passes { passes.new.items ≡ turned (map (λ w. w.pass) workers.items) }
-    ensures finishes { map finish_of staff.new.items ≡ turned (map finish_with workers.items) }
-    ensures numbers { map (λ s. s.number) staff.new.items ≡ turned (map (λ w. w.pass.owner) workers.items) }
-    ensures ended { result ≡ true → AllByRecursion (λ w. w.ended ≡ true) workers.items }
+    ensures passes { passes.new.items ≡ turned (map (λ w. w.pass) workers.entry.items) }
+    ensures finishes { map finish_of staff.new.items ≡ turned (map finish_with workers.entry.items) }
+    ensures numbers { map (λ s. s.number) staff.new.items ≡ turned (map (λ w. w.pass.owner) workers.entry.items) }
+    ensures ended { result ≡ true → AllByRecursion (λ w. w.ended ≡ true) workers.entry.items }
 {
     let mut workers = workers;
     let mut all = true;
@@ -155,7 +167,7 @@ fn dismiss<'a, W, C>(
         let number = pass.owner;
         let pushed = passes.push(pass);
         let Ok(()) = pushed else { unreachable!() };
-        all = all && ended;
+        all = both(all, ended);
         let pushed = staff.push(Staff {
             number,
             session,

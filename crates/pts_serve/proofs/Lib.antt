@@ -1,0 +1,3 @@
+pub mod Turned
+pub mod Joining
+pub mod Rounds
