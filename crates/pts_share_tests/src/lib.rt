@@ -3,6 +3,8 @@
 //! Only measurements stand on it.
 #![tactic(auto)]
 
+#[cfg(test)]
+mod asking;
 mod beside;
 #[cfg(test)]
 mod counts;
