@@ -1,21 +1,18 @@
 // `pts_bench ENTRIES` measures how long contexts of so many definitions of 30 nodes take, and images of records with so many terms
-// and nodes, looks at a shared core of so many entries, and open proofs of 1,000 and of 10,000 steps, and prints nanoseconds:
-// `bench/run` makes its tables of libraries with it. It is no part of the product, and promises only that it keeps to what contexts,
-// records, shared cores and open proofs ask for.
-// Stands on open proofs, images, shared cores and contexts.
+// and nodes, and open proofs of 1,000 and of 10,000 steps, and prints nanoseconds: `bench/run` makes its tables of libraries with
+// it. It is no part of the product, and promises only that it keeps to what contexts, records and open proofs ask for.
+// Stands on open proofs, images and contexts.
 #![tactic(auto)]
 
 mod contexts;
 mod entries;
 mod goals;
 mod images;
-mod sharing;
 mod steps;
 
 use crate::contexts::{building, copying, looking_up, making};
 use crate::goals::{finishing, refilling};
 use crate::images::{renaming, substituting};
-use crate::sharing::looking;
 use pts_ctx::ROOM;
 use std::process::ExitCode;
 use std::{env, io};
@@ -56,15 +53,7 @@ fn measure(rt: &HostRuntime, entries: usize) -> io::Result<()> {
         "making {making}\nbuilding {building}\ncopying {copying}\noldest {oldest}\nmissing {missing}"
     )?;
     println!(rt; "renaming {renaming}\nsubstituting {substituting}")?;
-    measure_looks(rt, entries)?;
     measure_proofs(rt)
-}
-
-// The same of shared cores.
-fn measure_looks(rt: &HostRuntime, entries: usize) -> io::Result<()> {
-    let looks = looking(rt, rt.alloc(), entries)?;
-    let (alone, beside) = (looks.alone, looks.beside);
-    println!(rt; "alone {alone}\nbeside {beside}")
 }
 
 // The same of open proofs.

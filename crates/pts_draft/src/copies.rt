@@ -22,11 +22,7 @@ pub(crate) fn copies_of(
     Ok(copies)
 }
 
-/// The same declaration again, with its record.
-pub(crate) fn copy_of(
-    alloc: Global,
-    declaration: &Declaration,
-) -> Result<Declaration, AllocError>
+fn copy_of(alloc: Global, declaration: &Declaration) -> Result<Declaration, AllocError>
     ensures { IfOk result (λ d. d ≡ declaration.now) }
 {
     let body = match &declaration.body {

@@ -5,7 +5,6 @@
 
 mod comparison;
 mod entries;
-mod hypotheses;
 mod inference;
 mod laws;
 mod reading;
@@ -15,13 +14,11 @@ mod scope;
 
 pub use comparison::equal;
 pub use entries::show;
-pub use hypotheses::Under;
 pub use inference::infer;
 pub use laws::{equal_has_one_answer, infer_has_one_answer, reduce_has_one_answer};
 pub use pts_ctx::{Context, Entry, System};
 pub use pts_names::{Name, Text};
 pub use pts_parser::Tree;
-pub use reading::unread_line;
 pub use reduction::reduce;
 pub use replies::{declared_line, shown_line};
 pub use scope::FrontScope;

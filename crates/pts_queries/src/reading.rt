@@ -10,7 +10,7 @@ ghost use Rattle.pts_queries.specs.Inner.{IsResolved};
 
 use crate::scope::FrontScope;
 use pts_ctx::{Context, System};
-use pts_names::{Name, Text};
+use pts_names::Text;
 use pts_parser::{ReadFault, Tree, resolve};
 use pts_terms::Term;
 use std::alloc::{AllocError, Global};
@@ -38,7 +38,7 @@ pub(crate) fn term_over(
 }
 
 /// The line that refuses a text.
-pub fn unread_line(alloc: Global, fault: &ReadFault) -> Result<Text, AllocError>
+pub(crate) fn unread_line(alloc: Global, fault: &ReadFault) -> Result<Text, AllocError>
     ensures line { IfOk result (λ line. line ≡ refusal (read_text fault.now)) }
     ensures refusal { OnOk result (fault.now ≢ ReadFault.Memory) }
 {
@@ -46,27 +46,4 @@ pub fn unread_line(alloc: Global, fault: &ReadFault) -> Result<Text, AllocError>
         return Err(AllocError);
     }
     Ok(Text::of(format!(in alloc; "refused {fault}")?))
-}
-
-/// The term of a tree over a front and the names of hypotheses, the outermost first.
-pub(crate) fn term_under(
-    alloc: Global,
-    system: &System,
-    front: &Context,
-    names: &[Name],
-    tree: &Tree,
-) -> Result<Term, ReadFault> {
-    resolve(alloc, tree, system, names, &FrontScope::of(front))
-}
-
-/// The place of a plain name among those of hypotheses, the innermost of its name.
-pub(crate) fn known_under(names: &[Name], name: &Name) -> Option<usize> {
-    let mut at = names.len();
-    while at > 0 {
-        at -= 1;
-        if name.is_plain() && names[at].same(name) {
-            return Some(at);
-        }
-    }
-    None
 }

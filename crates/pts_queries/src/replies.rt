@@ -6,7 +6,7 @@ ghost use Rattle.pts_ctx.specs.Entries.{global_of};
 ghost use Rattle.pts_queries.specs.Replies.{judgement_line, declared_line, shown_line};
 
 use pts_ctx::{Entry, System};
-use pts_names::{Name, Text};
+use pts_names::Text;
 use pts_printer::print_term;
 use pts_terms::Term;
 use std::alloc::{AllocError, Global};
@@ -52,29 +52,4 @@ pub fn shown_line(alloc: Global, system: &System, entry: &Entry) -> Result<Text,
         }
         None => Ok(Text::of(format!(in alloc; "{name} : {ty}")?)),
     }
-}
-
-/// `TERM : TYPE`, over the names of hypotheses.
-pub(crate) fn judgement_under(
-    alloc: Global,
-    system: &System,
-    names: &[Name],
-    term: &Term,
-    ty: &Term,
-) -> Result<Text, AllocError> {
-    let term = print_term(alloc, system, names, term)?;
-    let ty = print_term(alloc, system, names, ty)?;
-    Ok(Text::of(format!(in alloc; "{term} : {ty}")?))
-}
-
-/// `NAME : TYPE` of a hypothesis, over the names of those before it.
-pub(crate) fn entry_under(
-    alloc: Global,
-    system: &System,
-    names: &[Name],
-    name: &Name,
-    ty: &Term,
-) -> Result<Text, AllocError> {
-    let ty = print_term(alloc, system, names, ty)?;
-    Ok(Text::of(format!(in alloc; "{name} : {ty}")?))
 }

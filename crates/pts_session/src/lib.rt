@@ -26,7 +26,6 @@ pub use pts_core::{Answer, Examined, PortFault};
 pub use pts_names::Text;
 pub use pts_play::Local;
 pub use request::{Awaited, Request};
-pub use pts_workspace::BUDGET;
-pub use session::Session;
+pub use session::{BUDGET, Session};
 pub use table::CoreTable;
 pub use world::World;

@@ -1,5 +1,5 @@
 -- Passes of which each is known by its place.
-use Rattle.std.proofs.Common.{◌≡◌, ◌∙◌, refl, sym, ap, subst, ℕ, suc, ◌<◌, List, [], ◌∷◌, ◌++◌, length, map, take, drop, take_at, arith, slice_index_or}
+use Rattle.std.proofs.Common.{◌≡◌, ◌∙◌, refl, sym, ap, subst, ℕ, suc, ◌<◌, List, [], ◌∷◌, ◌++◌, length, map, take, drop, take_at, arith}
 use Rattle.std.specs.List.{AllByRecursion}
 use Rattle.atomic_table.specs.Seated.{TableId}
 use Rattle.pts_ctx.specs.System.{Specification}
@@ -9,15 +9,15 @@ use Rattle.pts_share_tests.specs.Beside.{EachStays}
 
 module _ (table : TableId) (S : Specification) where
   -- Past the first pass.
-  rest_stays : (p q : Pass) (ps qs : List Pass) → EachStays table S (p ∷ ps) (q ∷ qs) → EachStays table S ps qs
+  rest_stays : (p q : Pass) (ps qs : List Pass) → EachStays (IsPassOf table S) (p ∷ ps) (q ∷ qs) → EachStays (IsPassOf table S) ps qs
   rest_stays p q ps qs h = let long = h.0 in (omega arith, λ k d l. let next : suc k < length (p ∷ ps) = omega arith in h.1 (suc k) d next)
 
-  pub all_stay : (ps qs : List Pass) → EachStays table S ps qs → AllByRecursion (IsPassOf table S) qs
+  pub all_stay : (ps qs : List Pass) → EachStays (IsPassOf table S) ps qs → AllByRecursion (IsPassOf table S) qs
   all_stay ps [] h = tt
   all_stay [] (q ∷ qs) h = let long = h.0 in absurd (omega arith)
   all_stay (p ∷ ps) (q ∷ qs) h = let first : 0 < length (p ∷ ps) = omega arith in ((h.1 0 p first).0, all_stay ps qs (rest_stays p q ps qs h))
 
-  pub sessions_stay : (ps qs : List Pass) → EachStays table S ps qs → map (λ p. p.owner) qs ≡ map (λ p. p.owner) ps
+  pub sessions_stay : (ps qs : List Pass) → EachStays (IsPassOf table S) ps qs → map (λ p. p.owner) qs ≡ map (λ p. p.owner) ps
   sessions_stay [] [] h = refl
   sessions_stay (p ∷ ps) [] h = let long = h.0 in absurd (omega arith)
   sessions_stay [] (q ∷ qs) h = let long = h.0 in absurd (omega arith)

@@ -3,7 +3,7 @@
 ghost use Rattle.std.specs.Prelude.{◌≡◌, ◌<◌, ◌^◌, ℕ, IfOk, length, map};
 ghost use Rattle.std.specs.List.{All, AllByRecursion};
 ghost use Rattle.pts_names.specs.Lists.{AllDiffer};
-ghost use Rattle.pts_share.specs.Passes.{AddedTo, IsPassOf};
+ghost use Rattle.pts_share.specs.Passes.{AddedTo, IsPassOf, Pass};
 ghost use Rattle.pts_share.specs.Sharing.{system_of, table_of};
 ghost use Rattle.pts_share_tests.specs.Beside.{EachStays};
 
@@ -44,19 +44,48 @@ fn look_beside<R: Threads + Wait + Sync>(rt: &R, shared: &Shared, passes: &mut [
     look_each(rt, shared, passes, looks);
 }
 
-// The same, as a thread sees it: place by place.
-#[tactic(auto, using(crate::proofs::Sending::shared_core, crate::proofs::Sending::shared_part))]
-fn look_each<R: Threads + Wait + Sync>(rt: &R, shared: &Shared, passes: &mut [Pass], looks: u32)
-    requires { All (IsPassOf (table_of shared.now) (system_of shared.now)) passes.old }
-    ensures { EachStays (table_of shared.now) (system_of shared.now) passes.old passes.new }
+// What a pass can be used with, in any thread.
+trait Looking {
+    ghost is_pass: { Self → Pass → Type 0 };
+
+    // A session looks so often.
+    fn look_some<R: Wait>(&self, rt: &R, pass: &mut Pass, looks: u32)
+        requires { is_pass self.now pass.old }
+        ensures pass { is_pass self.now pass.new }
+        ensures session { pass.new.owner ≡ pass.old.owner };
+}
+
+impl Looking for Shared {
+    ghost use Rattle.pts_share.specs.Passes.{IsPassOf};
+    ghost use Rattle.pts_share.specs.Sharing.{system_of, table_of};
+
+    ghost is_pass = { λ s. IsPassOf (table_of s) (system_of s) };
+
+    fn look_some<R: Wait>(&self, rt: &R, pass: &mut Pass, looks: u32) {
+        look_often(rt, self, pass, looks);
+    }
+}
+
+// Each session looks so often, as a thread sees it: place by place.
+fn look_each<R: Threads + Wait + Sync, L: Looking + Sync>(
+    rt: &R,
+    shared: &L,
+    passes: &mut [Pass],
+    looks: u32,
+)
+    requires { All (L.is_pass shared.now) passes.old }
+    ensures { EachStays (L.is_pass shared.now) passes.old passes.new }
 {
     if passes.is_empty() {
         return;
     }
     let threads = passes.len();
-    thread::for_each_mut(rt, passes, threads, &|_, pass| {
-        look_often(rt, shared, pass, looks)
-    });
+    thread::for_each_mut(
+        rt,
+        passes,
+        threads,
+        &|_, pass| { shared.look_some(rt, pass, looks) },
+    );
 }
 
 // A session looks so often.

@@ -3,12 +3,14 @@
 //! Only measurements stand on it.
 #![tactic(auto)]
 
-#[cfg(test)]
-mod asking;
 mod beside;
 #[cfg(test)]
 mod counts;
 #[cfg(test)]
 mod crossing;
+#[cfg(test)]
+mod pairs;
+#[cfg(test)]
+mod turns;
 
 pub use beside::looked;
