@@ -3,11 +3,17 @@
 //! Only measurements stand on it.
 #![tactic(auto)]
 
+#[cfg(test)]
+mod answered;
+#[cfg(test)]
+mod asking;
 mod beside;
 #[cfg(test)]
 mod counts;
 #[cfg(test)]
 mod crossing;
+#[cfg(test)]
+mod full;
 #[cfg(test)]
 mod pairs;
 #[cfg(test)]
