@@ -7,10 +7,6 @@ use std::alloc::Global;
 use std::sync::Wait;
 use std::thread::Threads;
 
-const SESSIONS: [u32; 4] = [1, 2, 3, 4];
-
-const LOOKS: u32 = 10_000;
-
 // How many events are of a session.
 fn events_of(core: &Core, session: u32) -> u64 {
     let mut count = 0_u64;
@@ -22,25 +18,44 @@ fn events_of(core: &Core, session: u32) -> u64 {
     count
 }
 
-// The core after each of the four sessions looked so often.
-fn looked_by_four<R: Threads + Wait + Sync>(rt: &R, alloc: Global) -> Option<Core> {
+// The core after each of two sessions looked a thousand times.
+fn looked_by_two<R: Threads + Wait + Sync>(rt: &R, alloc: Global) -> Option<Core> {
     let core = Core::new(alloc, simple(alloc)?);
-    looked(rt, alloc, core, &[1, 2, 3, 4], LOOKS).ok()
+    looked(rt, alloc, core, &[1, 2], 1_000).ok()
 }
 
-fn each_looked(core: &Core) -> bool {
-    for session in SESSIONS {
-        if events_of(core, session) != u64::from(LOOKS) {
+// The core after each of four sessions looked ten thousand times.
+fn looked_by_four<R: Threads + Wait + Sync>(rt: &R, alloc: Global) -> Option<Core> {
+    let core = Core::new(alloc, simple(alloc)?);
+    looked(rt, alloc, core, &[1, 2, 3, 4], 10_000).ok()
+}
+
+// Whether a core has so many events of each of these sessions, so many of all, and no entry.
+fn has_looks(core: &Option<Core>, sessions: &[u32], each: u64, all: u64) -> bool {
+    let Some(core) = core else {
+        return false;
+    };
+    for session in sessions {
+        if events_of(core, *session) != each {
             return false;
         }
     }
-    core.events() == 40_000 && core.context().len() == 0
+    core.events() == all && core.context().len() == 0
+}
+
+#[test]
+fn two_threads_look_a_thousand_times_each(rt: HostRuntime) {
+    assert!(rt; has_looks(&looked_by_two(&rt, rt.alloc()), &[1, 2], 1_000, 2_000));
 }
 
 #[test]
 fn four_threads_look_ten_thousand_times_each(rt: HostRuntime) {
-    let core = looked_by_four(&rt, rt.alloc());
-    assert!(rt; core.is_some());
-    let Some(core) = core else { return };
-    assert!(rt; each_looked(&core));
+    assert!(rt;
+        has_looks(
+            &looked_by_four(&rt, rt.alloc()),
+            &[1, 2, 3, 4],
+            10_000,
+            40_000
+        )
+    );
 }
