@@ -1,32 +1,36 @@
 // `pts_bench ENTRIES` measures how long contexts of so many definitions of 30 nodes take, and images of records with so many terms
-// and nodes, and open proofs of 1,000 and of 10,000 steps, and prints nanoseconds: `bench/run` makes its tables of libraries with
-// it. It is no part of the product, and promises only that it keeps to what contexts, records and open proofs ask for.
-// Stands on open proofs, images and contexts.
+// and nodes, looks at a shared core of so many entries, and open proofs of 1,000 and of 10,000 steps, and prints nanoseconds:
+// `bench/run` makes its tables of libraries with it. It is no part of the product, and promises only that it keeps to what contexts,
+// records, shared cores and open proofs ask for.
+// Stands on open proofs, images, shared cores and contexts.
 #![tactic(auto)]
 
 mod contexts;
 mod entries;
 mod goals;
 mod images;
+mod sharing;
 mod steps;
 
 use crate::contexts::{building, copying, looking_up, making};
 use crate::goals::{finishing, refilling};
 use crate::images::{renaming, substituting};
+use crate::sharing::{Looks, looking};
 use pts_ctx::ROOM;
 use std::process::ExitCode;
 use std::{env, io};
 
 fn main(rt: HostRuntime) -> ExitCode {
-    match wanted(&rt) {
-        Some(entries) => match measure(&rt, entries) {
-            Ok(()) => ExitCode::from(0),
-            Err(_) => ExitCode::from(7),
-        },
-        None => {
-            let _ = println!(rt; "usage: pts_bench ENTRIES, from 64 to {ROOM}");
-            ExitCode::from(2)
-        }
+    let Some(entries) = wanted(&rt) else {
+        let _ = println!(rt; "usage: pts_bench ENTRIES, from 64 to {ROOM}");
+        return ExitCode::from(2);
+    };
+    let Ok(looks) = looking(&rt, rt.alloc(), entries) else {
+        return ExitCode::from(7);
+    };
+    match measure(&rt, entries, &looks) {
+        Ok(()) => ExitCode::from(0),
+        Err(_) => ExitCode::from(7),
     }
 }
 
@@ -40,7 +44,8 @@ fn wanted(rt: &HostRuntime) -> Option<usize> {
     }
 }
 
-fn measure(rt: &HostRuntime, entries: usize) -> io::Result<()> {
+// Measures the rest, and prints all.
+fn measure(rt: &HostRuntime, entries: usize, looks: &Looks) -> io::Result<()> {
     let alloc = rt.alloc();
     let making = making(alloc, rt, entries)?;
     let building = building(alloc, rt, entries)?;
@@ -53,10 +58,12 @@ fn measure(rt: &HostRuntime, entries: usize) -> io::Result<()> {
         "making {making}\nbuilding {building}\ncopying {copying}\noldest {oldest}\nmissing {missing}"
     )?;
     println!(rt; "renaming {renaming}\nsubstituting {substituting}")?;
+    let (alone, beside) = (looks.alone, looks.beside);
+    println!(rt; "alone {alone}\nbeside {beside}")?;
     measure_proofs(rt)
 }
 
-// The same of open proofs.
+// Measures open proofs.
 fn measure_proofs(rt: &HostRuntime) -> io::Result<()> {
     let alloc = rt.alloc();
     for steps in [1_000, 10_000] {
