@@ -47,12 +47,13 @@ pub fn looking<R: Threads + Wait + Sync + Clock>(
     })
 }
 
-// A core with so many entries.
+// A core with so many entries, at which one look was made: the first after so many entries orders them into chunks.
 fn library(alloc: Global, entries: usize) -> Option<Core> {
     let mut core = Core::new(alloc, simple(alloc)?);
     let declarations = assumptions(alloc, entries)?;
     let examined = examined(alloc, &core, declarations)?;
     core.answer_submit(1, examined).ok()?;
+    core.answer_look(1).ok()?;
     if core.context().len() == entries {
         Some(core)
     } else {
