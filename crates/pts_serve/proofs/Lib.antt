@@ -1,0 +1,4 @@
+pub mod Turned
+pub mod Joining
+pub mod Rounds
+pub mod Crossing
