@@ -1,3 +1,4 @@
+pub mod Growing
 pub mod Replying
 pub mod Reaching
 pub mod Once

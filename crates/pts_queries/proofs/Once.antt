@@ -1,20 +1,24 @@
 -- Each line that asks has one answer.
 use Rattle.std.proofs.Common.{◌≡◌, ◌<◌, ◌+◌, refl, sym, ap, ◌∙◌, ℕ, List, [], arith, Result, Ok, Err}
+use Rattle.pts_names.specs.Name.{Name}
 use Rattle.pts_terms.specs.Tree.{Named}
 use Rattle.pts_ctx.specs.System.{Specification}
 use Rattle.pts_grammar.specs.Syntax.{Syntax}
 use Rattle.pts_parser.specs.declared.fault.ReadFault.{ReadFault}
-use Rattle.pts_reduce_cost.specs.Costs.{Globals, Reduct, TestAnswer, nesting}
+use Rattle.pts_reduce_cost.specs.Costs.{Globals, Entries, too_large, Reduces, beyond, Tests, nesting}
 use Rattle.pts_reduce_cost.proofs.Reached.{one_reduct, one_verdict}
-use Rattle.pts_infer_cost.specs.Typing.{Flaw, Outcome, inference_nesting}
+use Rattle.pts_infer_cost.specs.Typing.{by_limits, stops, Infers, inference_nesting}
 use Rattle.pts_infer_cost.proofs.Exact.{inference_once}
-use Rattle.pts_infer.specs.Answered.{OfTerm, term_too_large as inferred_too_large, term_inferred}
 use Rattle.pts_queries.specs.Budgets.{Worked, came_to, above, Works, is_within, is_above}
 use Rattle.pts_queries.specs.Reading.{term_over, OnTerm}
-use Rattle.pts_queries.specs.Queries.{worked_line, AnswersWork, ReducesTerm, term_too_large, term_reduced, TestsTerms, left_too_large, right_too_large, terms_tested, inferred_line, reduced_line, tested_line, AnswersInfer, AnswersReduce, AnswersEqual}
+use Rattle.pts_queries.specs.Queries.{worked_line, AnswersWork, Limited, beyond_limits, inside_limits, InfersTerm, ReducesTerm, TestsTerms, inferred_line, reduced_line, tested_line, AnswersInferUnder, AnswersReduceUnder, AnswersEqualUnder, AnswersInfer, AnswersReduce, AnswersEqual}
 use Rattle.pts_queries.specs.Laws.{HasOneLine}
 
-module _ {O : Type 0} (costs : O → ℕ → Type 0) (once : (o p : O) (m n : ℕ) → costs o m → costs p n → (o ≡ p) × (m ≡ n)) (b : ℕ) where
+-- Work that has one outcome, at one cost.
+abbrev pub ComesOnce : {O : Type 0} → (O → ℕ → Type 0) → Type 0
+ComesOnce {O} costs = (o p : O) (m n : ℕ) → costs o m → costs p n → (o ≡ p) × (m ≡ n)
+
+module _ {O : Type 0} (costs : O → ℕ → Type 0) (once : ComesOnce costs) (b : ℕ) where
   not_both : {P : Type 0} (m k : ℕ) → m + k ≡ b → b < m → P
   not_both m k e h = absurd (omega (arith, e, h))
 
@@ -31,36 +35,39 @@ on_term_once : (said : Result Named ReadFault) (says : Named → List ℕ → Ty
 on_term_once (Ok t) says once l m h i = once t l m h i
 on_term_once (Err e) says once l m h i = h ∙ sym i
 
-module _ (S : Specification) (G : Globals) where
-  inferences_once : (t : Named) (o p : Outcome Flaw Named) (m n : ℕ) → OfTerm S G t o m → OfTerm S G t p n → (o ≡ p) × (m ≡ n)
-  inferences_once t o p m n (inferred_too_large h) (inferred_too_large k) = (refl, refl)
-  inferences_once t o p m n (inferred_too_large h) (term_inferred k d) = absurd (cc)
-  inferences_once t o p m n (term_inferred k d) (inferred_too_large h) = absurd (cc)
-  inferences_once t o p m n (term_inferred h d) (term_inferred k e) = inference_once S G inference_nesting [] t o p m n d e
+limited_once : {O : Type 0} (t : Named) (big : O) (costs : O → ℕ → Type 0) → ComesOnce costs → ComesOnce (Limited t big costs)
+limited_once t big costs once o p m n (beyond_limits h) (beyond_limits k) = (refl, refl)
+limited_once t big costs once o p m n (beyond_limits h) (inside_limits k d) = absurd (cc)
+limited_once t big costs once o p m n (inside_limits k d) (beyond_limits h) = absurd (cc)
+limited_once t big costs once o p m n (inside_limits h d) (inside_limits k e) = once o p m n d e
 
-  reductions_once : (t : Named) (o p : Reduct) (m n : ℕ) → ReducesTerm G t o m → ReducesTerm G t p n → (o ≡ p) × (m ≡ n)
-  reductions_once t o p m n (term_too_large h) (term_too_large k) = (refl, refl)
-  reductions_once t o p m n (term_too_large h) (term_reduced k d) = absurd (cc)
-  reductions_once t o p m n (term_reduced k d) (term_too_large h) = absurd (cc)
-  reductions_once t o p m n (term_reduced h d) (term_reduced k e) = one_reduct G [] t o p m n d e
+-- The three kinds of work, and the lines of them.
+module _ (S : Specification) (G : Globals) (xs : List Name) (L : Entries) where
+  inferences_once : (t : Named) → ComesOnce (InfersTerm S G L t)
+  inferences_once t = limited_once t (stops by_limits) (Infers S G inference_nesting L t) (inference_once S G inference_nesting L t)
 
-  tests_once : (t u : Named) (o p : TestAnswer) (m n : ℕ) → TestsTerms G t u o m → TestsTerms G t u p n → (o ≡ p) × (m ≡ n)
-  tests_once t u o p m n (left_too_large h) (left_too_large k) = (refl, refl)
-  tests_once t u o p m n (left_too_large h) (right_too_large k i) = absurd (cc)
-  tests_once t u o p m n (left_too_large h) (terms_tested k i d) = absurd (cc)
-  tests_once t u o p m n (right_too_large h i) (left_too_large k) = absurd (cc)
-  tests_once t u o p m n (right_too_large h i) (right_too_large k j) = (refl, refl)
-  tests_once t u o p m n (right_too_large h i) (terms_tested k j d) = absurd (cc)
-  tests_once t u o p m n (terms_tested h i d) (left_too_large k) = absurd (cc)
-  tests_once t u o p m n (terms_tested h i d) (right_too_large k j) = absurd (cc)
-  tests_once t u o p m n (terms_tested h i d) (terms_tested k j e) = one_verdict G nesting [] t u o p m n d e
+  reductions_once : (t : Named) → ComesOnce (ReducesTerm G L t)
+  reductions_once t = limited_once t too_large (Reduces G L t) (one_reduct G L t)
 
+  tests_once : (t u : Named) → ComesOnce (TestsTerms G L t u)
+  tests_once t u = limited_once t beyond (Limited u beyond (Tests G nesting L t u)) (limited_once u beyond (Tests G nesting L t u) (one_verdict G nesting L t u))
+
+  pub infer_once_under : (b : ℕ) (T : Syntax) → HasOneLine (AnswersInferUnder S G xs L b T)
+  infer_once_under b T = on_term_once (term_over S.sorts G xs T) (λ t. AnswersWork (InfersTerm S G L t) b (inferred_line S.sorts xs t)) (λ t. replies_once (InfersTerm S G L t) (inferences_once t) b (inferred_line S.sorts xs t))
+
+  pub reduce_once_under : (b : ℕ) (T : Syntax) → HasOneLine (AnswersReduceUnder S G xs L b T)
+  reduce_once_under b T = on_term_once (term_over S.sorts G xs T) (λ t. AnswersWork (ReducesTerm G L t) b (reduced_line S.sorts xs)) (λ t. replies_once (ReducesTerm G L t) (reductions_once t) b (reduced_line S.sorts xs))
+
+  pub equal_once_under : (b : ℕ) (T U : Syntax) → HasOneLine (AnswersEqualUnder S G xs L b T U)
+  equal_once_under b T U =
+      on_term_once (term_over S.sorts G xs T) (λ t. OnTerm (term_over S.sorts G xs U) (λ u. AnswersWork (TestsTerms G L t u) b tested_line)) (λ t. on_term_once (term_over S.sorts G xs U) (λ u. AnswersWork (TestsTerms G L t u) b tested_line) (λ u. replies_once (TestsTerms G L t u) (tests_once t u) b tested_line))
+
+-- The same without hypotheses.
 pub infer_once : (S : Specification) (G : Globals) (b : ℕ) (T : Syntax) → HasOneLine (AnswersInfer S G b T)
-infer_once S G b T = on_term_once (term_over S.sorts G T) (λ t. AnswersWork (OfTerm S G t) b (inferred_line S.sorts t)) (λ t. replies_once (OfTerm S G t) (inferences_once S G t) b (inferred_line S.sorts t))
+infer_once S G b T = infer_once_under S G [] [] b T
 
 pub reduce_once : (S : Specification) (G : Globals) (b : ℕ) (T : Syntax) → HasOneLine (AnswersReduce S G b T)
-reduce_once S G b T = on_term_once (term_over S.sorts G T) (λ t. AnswersWork (ReducesTerm G t) b (reduced_line S.sorts)) (λ t. replies_once (ReducesTerm G t) (reductions_once S G t) b (reduced_line S.sorts))
+reduce_once S G b T = reduce_once_under S G [] [] b T
 
 pub equal_once : (S : Specification) (G : Globals) (b : ℕ) (T U : Syntax) → HasOneLine (AnswersEqual S G b T U)
-equal_once S G b T U =
-    on_term_once (term_over S.sorts G T) (λ t. OnTerm (term_over S.sorts G U) (λ u. AnswersWork (TestsTerms G t u) b tested_line)) (λ t. on_term_once (term_over S.sorts G U) (λ u. AnswersWork (TestsTerms G t u) b tested_line) (λ u. replies_once (TestsTerms G t u) (tests_once S G t u) b tested_line))
+equal_once S G b T U = equal_once_under S G [] [] b T U

@@ -1,15 +1,16 @@
 -- The lines of what work comes to.
-use Rattle.std.proofs.Common.{◌≡◌, ◌≢◌, refl, sym, ap, subst, ℕ, List, [], arith, Result, Ok, Err, IfOk, OnOk}
+use Rattle.std.proofs.Common.{◌≡◌, ◌≢◌, refl, sym, ap, subst, ℕ, List, arith, Result, Ok, Err, IfOk, OnOk}
+use Rattle.pts_names.specs.Name.{Name}
 use Rattle.pts_terms.specs.Tree.{Named}
 use Rattle.pts_ctx.specs.System.{Specification}
 use Rattle.pts_rules.specs.Meter.{Units, left}
-use Rattle.pts_reduce_cost.specs.Costs.{Globals}
+use Rattle.pts_reduce_cost.specs.Costs.{Globals, Entries}
 use Rattle.pts_reduce_cost.specs.Laws.{WithinBudget, AboveBudget}
 use Rattle.pts_reduce.specs.Answered.{Refused as NotReduced}
 use Rattle.pts_reduce.specs.declared.fault.ReduceFault.{ReduceFault}
 use Rattle.pts_reduce.specs.declared.fault.ReduceFault.TheVariants as reduce
 use Rattle.pts_infer_cost.specs.Typing.{by_flaw, by_limits, stops}
-use Rattle.pts_infer.specs.Answered.{OfTerm, Refused}
+use Rattle.pts_infer.specs.Answered.{Refused}
 use Rattle.pts_infer.specs.FaultText.{part_text}
 use Rattle.pts_infer.specs.declared.answer.InferFault.{InferFault}
 use Rattle.pts_infer.specs.declared.answer.InferFault.TheVariants as infer
@@ -18,7 +19,7 @@ use Rattle.pts_flaw_text.specs.FlawText.{flaw_text}
 use Rattle.pts_flaw_text.specs.InferText.{spent_text, deep_text, infer_text}
 use Rattle.pts_queries.specs.Budgets.{came_to, above, is_within, is_above}
 use Rattle.pts_queries.specs.Replies.{refusal}
-use Rattle.pts_queries.specs.Queries.{AnswersWork, TestsTerms, inferred_line, tested_line}
+use Rattle.pts_queries.specs.Queries.{AnswersWork, InfersTerm, TestsTerms, inferred_line, tested_line}
 use Rattle.pts_queries.specs.Inner.{reduce_text, IsTested}
 
 -- A new meter has all of its units.
@@ -46,19 +47,19 @@ module _ {O : Type 0} (costs : O → ℕ → Type 0) (b c : ℕ) (start : c ≡ 
   stopped big f k (Ok line) deep h other is = stopped_by big f k line deep h other is
   stopped big f k (Err e) deep h other is = tt
 
--- The same of the inference of a term.
-module _ (S : Specification) (G : Globals) (t : Named) (b c : ℕ) (start : c ≡ b) where
-  untyped_by : (f : InferFault) (k : ℕ) (line : List ℕ) → Refused [] (OfTerm S G t) f c k → f ≢ infer.Memory → line ≡ refusal (infer_text S.sorts Whole f) → AnswersWork (OfTerm S G t) b (inferred_line S.sorts t) line
+-- The same of the inference of a term, over the names of hypotheses.
+module _ (S : Specification) (G : Globals) (xs : List Name) (L : Entries) (t : Named) (b c : ℕ) (start : c ≡ b) where
+  untyped_by : (f : InferFault) (k : ℕ) (line : List ℕ) → Refused xs (InfersTerm S G L t) f c k → f ≢ infer.Memory → line ≡ refusal (infer_text S.sorts Whole f) → AnswersWork (InfersTerm S G L t) b (inferred_line S.sorts xs t) line
   untyped_by (infer.Flaw f) k line (g, same, within) other is =
-      replied (OfTerm S G t) b c start (inferred_line S.sorts t) (stops (by_flaw g)) k line within (subst (λ h. line ≡ refusal (flaw_text S.sorts (part_text Whole) h)) same is)
-  untyped_by infer.Spent k line (h, z) other is = replied_above (OfTerm S G t) b c start (inferred_line S.sorts t) line h is
-  untyped_by infer.Deep k line h other is = replied (OfTerm S G t) b c start (inferred_line S.sorts t) (stops by_limits) k line h is
+      replied (InfersTerm S G L t) b c start (inferred_line S.sorts xs t) (stops (by_flaw g)) k line within (subst (λ h. line ≡ refusal (flaw_text S.sorts (part_text Whole) h)) same is)
+  untyped_by infer.Spent k line (h, z) other is = replied_above (InfersTerm S G L t) b c start (inferred_line S.sorts xs t) line h is
+  untyped_by infer.Deep k line h other is = replied (InfersTerm S G L t) b c start (inferred_line S.sorts xs t) (stops by_limits) k line h is
   untyped_by infer.Memory k line h other is = absurd (other refl)
 
-  pub untyped : {E : Type 0} (f : InferFault) (k : ℕ) (r : Result (List ℕ) E) → Refused [] (OfTerm S G t) f c k → OnOk r (f ≢ infer.Memory) → IfOk r (λ line. line ≡ refusal (infer_text S.sorts Whole f)) → IfOk r (λ line. AnswersWork (OfTerm S G t) b (inferred_line S.sorts t) line)
+  pub untyped : {E : Type 0} (f : InferFault) (k : ℕ) (r : Result (List ℕ) E) → Refused xs (InfersTerm S G L t) f c k → OnOk r (f ≢ infer.Memory) → IfOk r (λ line. line ≡ refusal (infer_text S.sorts Whole f)) → IfOk r (λ line. AnswersWork (InfersTerm S G L t) b (inferred_line S.sorts xs t) line)
   untyped f k (Ok line) h other is = untyped_by f k line h other is
   untyped f k (Err e) h other is = tt
 
 -- The line of a test.
-pub tested_reply : (G : Globals) (t u : Named) (b c k : ℕ) (line : List ℕ) → c ≡ b → IsTested (TestsTerms G t u) c k line → AnswersWork (TestsTerms G t u) b tested_line line
-tested_reply G t u b c k line start (o, h, is) = replied (TestsTerms G t u) b c start tested_line o k line h is
+pub tested_reply : (G : Globals) (L : Entries) (t u : Named) (b c k : ℕ) (line : List ℕ) → c ≡ b → IsTested (TestsTerms G L t u) c k line → AnswersWork (TestsTerms G L t u) b tested_line line
+tested_reply G L t u b c k line start (o, h, is) = replied (TestsTerms G L t u) b c start tested_line o k line h is

@@ -1,5 +1,5 @@
 -- The terms of lines: names and sorts are looked up before all else.
-use Rattle.std.specs.Prelude.{◌≡◌, ℕ, List, [], Option, Some, None, is_some, if◌then◌else◌, Result, Ok, Err}
+use Rattle.std.specs.Prelude.{◌≡◌, ℕ, List, reverse, Option, Some, None, is_some, if◌then◌else◌, Result, Ok, Err}
 use Rattle.pts_names.specs.Name.{Name}
 use Rattle.pts_terms.specs.Tree.{Named}
 use Rattle.pts_ctx.specs.Seen.{place_of}
@@ -14,9 +14,10 @@ use Rattle.pts_queries.specs.Replies.{refusal}
 abbrev pub known_name : Globals → Name → Option Name
 known_name G x = if is_some (place_of x G) then Some x else None
 
--- The term of a text over the front, or the first fault of a name or a sort from the left.
-abbrev pub term_over : (sorts : List (List ℕ)) → Globals → Syntax → Result Named ReadFault
-term_over sorts G T = resolved sorts (known_name G) [] T
+-- The term of a text over the front and hypotheses with these names, the outermost first; or the first fault of a name or a
+-- sort from the left. A plain name is that of the innermost hypothesis that has it, if one has.
+abbrev pub term_over : (sorts : List (List ℕ)) → Globals → (xs : List Name) → Syntax → Result Named ReadFault
+term_over sorts G xs T = resolved sorts (known_name G) (reverse xs) T
 
 -- The line is what is said of the term; or the fault is refused.
 abbrev pub OnTerm : Result Named ReadFault → (Named → List ℕ → Type 0) → List ℕ → Type 0

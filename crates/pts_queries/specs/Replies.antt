@@ -14,23 +14,22 @@ refusal text = codes "refused " ++ text
 abbrev pub difference_line : (place : List ℕ) → List ℕ
 difference_line place = codes "no " ++ place_text place
 
--- Terms are printed without locals.
 module _ (sorts : List (List ℕ)) where
-  -- `TERM : TYPE`
-  abbrev pub judgement_line : (t A : Named) → List ℕ
-  judgement_line t A = printed sorts [] t ++ (codes " : " ++ printed sorts [] A)
+  -- `TERM : TYPE`, printed over the names xs of hypotheses, the outermost first.
+  abbrev pub judgement_line : (xs : List Name) → (t A : Named) → List ℕ
+  judgement_line xs t A = printed sorts xs t ++ (codes " : " ++ printed sorts xs A)
 
-  -- `NAME : TYPE`
-  abbrev pub entry_line : Global Name → List ℕ
-  entry_line e = e.name ++ (codes " : " ++ printed sorts [] e.type)
+  -- `NAME : TYPE`, the type over the names of hypotheses.
+  abbrev pub typed_line : (xs : List Name) → Name → (A : Named) → List ℕ
+  typed_line xs x A = x ++ (codes " : " ++ printed sorts xs A)
 
   -- `assumed NAME : TYPE` and `defined NAME : TYPE`, by the word.
   abbrev pub declared_line : (word : List ℕ) → Global Name → List ℕ
-  declared_line word e = word ++ (codes " " ++ entry_line e)
+  declared_line word e = word ++ (codes " " ++ typed_line [] e.name e.type)
 
   -- `NAME : TYPE` of an assumption, and `NAME := BODY : TYPE` of a definition.
   abbrev pub shown_by : Name → Option Named → Named → List ℕ
-  shown_by x None A = x ++ (codes " : " ++ printed sorts [] A)
+  shown_by x None A = typed_line [] x A
   shown_by x (Some a) A = x ++ (codes " := " ++ (printed sorts [] a ++ (codes " : " ++ printed sorts [] A)))
 
   abbrev pub shown_line : Global Name → List ℕ

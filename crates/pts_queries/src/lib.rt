@@ -1,10 +1,11 @@
-//! The lines of a session that ask and change nothing: `infer`, `reduce`, `equal` and `show`; and the texts of replies that
-//! hold terms. Each reply is the one line of the definition, on a budget of units.
+//! The lines of a session that ask and change nothing: `infer`, `reduce`, `equal` and `show`, over a front and under
+//! hypotheses; and the texts of replies that hold terms. Each reply is the one line of the definition, on a budget of units.
 //! Stands on the reader and the printer of terms, on reduction and inference, and on the texts of flaws.
 #![tactic(auto)]
 
 mod comparison;
 mod entries;
+mod hypotheses;
 mod inference;
 mod laws;
 mod reading;
@@ -14,6 +15,7 @@ mod scope;
 
 pub use comparison::equal;
 pub use entries::show;
+pub use hypotheses::Under;
 pub use inference::infer;
 pub use laws::{equal_has_one_answer, infer_has_one_answer, reduce_has_one_answer};
 pub use pts_ctx::{Context, Entry, System};

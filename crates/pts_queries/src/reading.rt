@@ -10,28 +10,30 @@ ghost use Rattle.pts_queries.specs.Inner.{IsResolved};
 
 use crate::scope::FrontScope;
 use pts_ctx::{Context, System};
-use pts_names::Text;
+use pts_names::{Name, Text};
 use pts_parser::{ReadFault, Tree, resolve};
 use pts_terms::Term;
 use std::alloc::{AllocError, Global};
 
-/// What a tree is over a front: a term, or a line that refuses it.
+/// What a tree is: a term, or a line that refuses it.
 #[derive(Drop)]
 pub(crate) enum Resolved {
     Term(Term),
     Refused(Text),
 }
 
-/// The term of a tree over a front, or the refusal of its first name or sort that is unknown, from the left.
+/// The term of a tree over a front and the names of hypotheses, the outermost first; or the refusal of its first name or
+/// sort that is unknown, from the left.
 pub(crate) fn term_over(
     alloc: Global,
     system: &System,
     front: &Context,
+    names: &[Name],
     tree: &Tree,
 ) -> Result<Resolved, AllocError>
-    ensures { IfOk result (λ r. IsResolved (term_over system.now.sorts front.now.entries (syntax_of tree.now)) r) }
+    ensures { IfOk result (λ r. IsResolved (term_over system.now.sorts front.now.entries names.now (syntax_of tree.now)) r) }
 {
-    match resolve(alloc, tree, system, &[], &FrontScope::of(front)) {
+    match resolve(alloc, tree, system, names, &FrontScope::of(front)) {
         Ok(term) => Ok(Resolved::Term(term)),
         Err(fault) => Ok(Resolved::Refused(unread_line(alloc, &fault)?)),
     }

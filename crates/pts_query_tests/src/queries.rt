@@ -9,7 +9,8 @@ use pts_queries::{
 use pts_terms::Term;
 use std::alloc::{AllocError, Global};
 
-fn is_line(line: &Result<Text, AllocError>, wanted: &str) -> bool {
+/// Whether a line is that one.
+pub fn is_line(line: &Result<Text, AllocError>, wanted: &str) -> bool {
     match line {
         Ok(line) => line.text() == wanted,
         Err(_) => false,

@@ -50,7 +50,7 @@ fn are_refused(answers: &Answers) -> bool {
         && answers.second == (2, EVENTS)
 }
 
-// One look is answered yet.
+// A core whose last event is a look of session 1.
 fn filled<R: Threads + Wait + Sync>(rt: &R, alloc: Global) -> Option<Core> {
     let core = looked(rt, alloc, nearly_full(alloc)?, &[1], 1).ok()?;
     if core.events() == EVENTS {
