@@ -1,2 +1,4 @@
 pub mod Stating
 pub mod Once
+pub mod Naming
+pub mod Parts

@@ -1,7 +1,7 @@
 // What the words ask for.
 
 ghost use Rattle.std.specs.Prelude.{◌≡◌, Some, None, map, string_bytes, MatchOption};
-ghost use Rattle.yarrow.specs.Commands.{command_of, command_seen, check_with, format_with, batch_with, replay_with, serve_with, is_module};
+ghost use Rattle.yarrow.specs.Commands.{command_of, command_seen, check_with, format_with, batch_with, replay_with, is_module, is_among, all_modules, are_modules};
 
 use pts_names::is_identifier;
 
@@ -12,12 +12,10 @@ pub(crate) enum Command<'a> {
     Check,
     /// `format SPEC`
     Format(&'a str),
-    /// `batch SPEC MODULE`
-    Batch(&'a str, &'a str),
+    /// `batch SPEC MODULE..`
+    Batch(&'a str, &'a [String]),
     /// `replay SPEC`
     Replay(&'a str),
-    /// `serve SPEC`
-    Serve(&'a str),
 }
 
 /// The command that the words are, or nothing where they have no form.
@@ -35,7 +33,6 @@ pub(crate) fn command_of(words: &[String]) -> Option<Command<'_>>
         "format" => format_with(rest),
         "batch" => batch_with(rest),
         "replay" => replay_with(rest),
-        "serve" => serve_with(rest),
         _ => None,
     }
 }
@@ -68,8 +65,8 @@ fn batch_with(words: &[String]) -> Option<Command<'_>>
         (λ c. batch_with (map string_bytes words.now) ≡ Some (command_seen c)) }
 {
     match words {
-        [word, name] if !word.is_empty() && is_module(name.as_str()) => {
-            Some(Command::Batch(word.as_str(), name.as_str()))
+        [word, names @ ..] if !word.is_empty() && are_modules(names) => {
+            Some(Command::Batch(word.as_str(), names))
         }
         _ => None,
     }
@@ -86,15 +83,37 @@ fn replay_with(words: &[String]) -> Option<Command<'_>>
     }
 }
 
-fn serve_with(words: &[String]) -> Option<Command<'_>>
-    ensures { MatchOption result
-        (serve_with (map string_bytes words.now) ≡ None)
-        (λ c. serve_with (map string_bytes words.now) ≡ Some (command_seen c)) }
+// Whether the words name modules, from 1 to 64 of them and none twice.
+fn are_modules(words: &[String]) -> bool
+    ensures { result ≡ are_modules (map string_bytes words.now) }
 {
-    match words {
-        [word] if !word.is_empty() => Some(Command::Serve(word.as_str())),
-        _ => None,
+    !words.is_empty() && words.len() <= 64 && all_modules(words)
+}
+
+// Whether each word names a module, and none stands there twice.
+fn all_modules(words: &[String]) -> bool
+    ensures { result ≡ all_modules (map string_bytes words.now) }
+{
+    let mut rest = words;
+    while let [word, later @ ..] = rest {
+        if !is_module(word.as_str()) || is_among(word.as_str(), later) {
+            return false;
+        }
+        rest = later;
     }
+    true
+}
+
+// Whether a text is one of the words.
+fn is_among(text: &str, words: &[String]) -> bool
+    ensures { result ≡ is_among text.now (map string_bytes words.now) }
+{
+    for word in words {
+        if text == word.as_str() {
+            return true;
+        }
+    }
+    false
 }
 
 // Whether the word names a module.
