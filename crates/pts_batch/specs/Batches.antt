@@ -1,109 +1,94 @@
--- What `batch` answers to modules of a library.
-use Rattle.std.specs.Prelude.{◌≡◌, ◌≢◌, ◌<◌, ℕ, suc, ◌+◌, ◌-◌, min, List, [], ◌∷◌, ◌++◌, map, length, Bool, true, false, Option, Some, None, Ok, Err, codes}
+-- What `batch` answers to the file of a module.
+use Rattle.std.specs.Prelude.{◌≡◌, ℕ, ◌+◌, List, [], ◌∷◌, ◌++◌, map, length, nat_le, if◌then◌else◌, Bool, true, false, Option, Some, None, Ok, Err, codes}
 use Rattle.std.specs.Fmt.{decimal}
 use Rattle.pts_names.specs.Name.{Name}
 use Rattle.pts_ctx.specs.System.{Specification}
 use Rattle.pts_ctx.specs.Front.{Global}
+use Rattle.pts_lines.specs.declared.command.Declaring.{Declaring}
+use Rattle.pts_lines.specs.Lines.{Line, of_type, definition}
+use Rattle.pts_module_file.specs.declared.fault.FileWhy.{FileWhy}
+use Rattle.pts_module_file.specs.File.{File, module_of}
 use Rattle.pts_printed.specs.Locals.{printed}
 use Rattle.pts_reduce_cost.specs.Costs.{Globals}
-use Rattle.pts_rules.specs.FaultText.{why_text}
-use Rattle.pts_core.specs.declared.finding.Finding.TheVariants.{Sound}
-use Rattle.pts_core.specs.declared.reply.Reply.{Reply}
-use Rattle.pts_core.specs.declared.reply.Reply.TheVariants.{Seen, Committed, Faulty, Clash, Loaded, ContextFull}
-use Rattle.pts_core.specs.Replies.{LabelledFront, reply_to}
-use Rattle.pts_core.specs.Histories.{left_by, no_entries}
-use Rattle.pts_modules.specs.declared.fault.OrderFault.{OrderFault}
-use Rattle.pts_modules.specs.Orders.{Orders}
-use Rattle.pts_modules.specs.Checking.{ModuleWhy, Templated, ChecksModule, refused, template}
-use Rattle.pts_modules.specs.FaultText.{order_text, module_text}
-use Rattle.pts_instance.specs.Instances.{instance_of}
+use Rattle.pts_statement.specs.Statements.{Statement, assumes, defines}
+use Rattle.pts_module_file.specs.FaultText.{file_why_text}
+use Rattle.pts_flaw_text.specs.InferText.{spent_text}
+use Rattle.pts_statement.specs.Words.{stop_text}
+use Rattle.pts_batch.specs.Loading.{Loaded, entered, stopped, spent, Loads}
 
--- What has come of modules: the front that they left, how many entered it, the lines, and the units that were spent.
-pub record State : Type 0 where
-  pub front : LabelledFront
-  pub events : ℕ
+-- The statements of a file, each with the number of its line.
+abbrev pub with_statement : ℕ → Line → List (ℕ × Statement) → List (ℕ × Statement)
+with_statement n (of_type c x T) ds = (n, assumes x T) ∷ ds
+with_statement n (definition x A T) ds = (n, defines x A T) ∷ ds
+with_statement n L ds = ds
+
+abbrev pub statements_of : List (ℕ × (Declaring × Line)) → List (ℕ × Statement)
+statements_of [] = []
+statements_of (r ∷ rs) = with_statement r.0 r.1.1 (statements_of rs)
+
+-- The first line of a file that uses a module, or else the first with a parameter.
+abbrev pub first_line : {A : Type 0} → List (ℕ × A) → Option ℕ → Option ℕ
+first_line [] later = later
+first_line (r ∷ rs) later = Some r.0
+
+abbrev pub unbuilt_line : File → Option ℕ
+unbuilt_line f = first_line f.used (first_line f.assumed None)
+
+-- What becomes of a file: it breaks the format at a line; a line of it is of a kind that is not built; or its statements
+-- come to something.
+pub data BatchOutcome : Type 0 where
+  bad_file : (line : ℕ) → FileWhy → BatchOutcome
+  not_built : (line : ℕ) → BatchOutcome
+  loaded : Loaded → BatchOutcome
+
+-- Batches S M bytes b o k: the bytes as the file of the module M, over the empty front, come to o with b units before
+-- and k after.
+pub data Batches (S : Specification) (M : Name) (bytes : List ℕ) (b : ℕ) : BatchOutcome → ℕ → Type 0 where
+  file_is_bad : {n : ℕ} {w : FileWhy} → module_of M bytes ≡ Err (n, w) → Batches S M bytes b (bad_file n w) b
+  line_is_not_built : {f : File} {n : ℕ} → module_of M bytes ≡ Ok f → unbuilt_line f ≡ Some n → Batches S M bytes b (not_built n) b
+  file_is_loaded : {f : File} {o : Loaded} {k : ℕ} → module_of M bytes ≡ Ok f → unbuilt_line f ≡ None → Loads S M [] (statements_of f.stated) b o k → Batches S M bytes b (loaded o) k
+
+-- What is answered: lines, the entries that enter, the labels, and whether it is a refusal.
+pub record BatchAnswer : Type 0 where
   pub lines : List (List ℕ)
-  pub units : ℕ
+  pub entries : Globals
+  pub labels : List (Name × ℕ)
+  pub refused : Bool
 
-abbrev pub start : State
-start = record { front = no_entries; events = 0; lines = []; units = 0 }
-
--- With so many units more, of which the greatest number of its type is the most that is counted.
-abbrev pub with_units : ℕ → State → State
-with_units n s = record { front = s.front; events = s.events; lines = s.lines; units = min (s.units + n) 18446744073709551615 }
-
-abbrev pub with_lines : List (List ℕ) → State → State
-with_lines ls s = record { front = s.front; events = s.events; lines = s.lines ++ ls; units = s.units }
-
--- The lines: a refusal of the module M; a module with parameters; an entry with its type.
+-- A refusal of the module M is one line, and nothing enters.
 abbrev pub refusal_line : Name → List ℕ → List ℕ
 refusal_line M text = codes "refused " ++ (M ++ (codes " " ++ text))
 
-abbrev pub template_line : Name → Templated → List ℕ
-template_line M T = codes "template " ++ (M ++ (codes " " ++ (decimal (length T.parameters) ++ (codes " " ++ decimal (length T.declarations)))))
+abbrev pub refusal : Name → List ℕ → BatchAnswer
+refusal M text = record { lines = refusal_line M text ∷ []; entries = []; labels = []; refused = true }
 
+-- The refusal of a line that breaks the format.
+abbrev pub bad_line : ℕ → FileWhy → List ℕ
+bad_line n w = codes "BadFile " ++ (decimal n ++ (codes " " ++ file_why_text w))
+
+-- An entry with its type.
 abbrev pub entry_line : List (List ℕ) → Global Name → List ℕ
 entry_line sorts e = e.name ++ (codes " : " ++ printed sorts [] e.type)
 
--- Why the core refuses, as it is printed. Of other replies nothing is said.
-abbrev pub cause_text : Reply → List ℕ
-cause_text (Seen n) = []
-cause_text (Committed n m) = []
-cause_text (Faulty x k why) = codes "Faulty " ++ (x ++ (codes " " ++ (decimal k ++ (codes " " ++ why_text why))))
-cause_text (Clash x p) = codes "Clash " ++ (x ++ (codes " " ++ decimal p))
-cause_text (Loaded l p) = codes "Loaded " ++ (l ++ (codes " " ++ decimal p))
-cause_text (ContextFull n) = codes "ContextFull " ++ decimal n
+abbrev pub at_line : ℕ → List ℕ → List ℕ
+at_line n text = codes "Declaration " ++ (decimal n ++ (codes " " ++ text))
 
-abbrev pub is_committed : Reply → Bool
-is_committed (Committed n m) = true
-is_committed (Seen n) = false
-is_committed (Faulty x k why) = false
-is_committed (Clash x p) = false
-is_committed (Loaded l p) = false
-is_committed (ContextFull n) = false
+-- All statements have passed. The label of the module stands before its entries. A front has at most 200,000.
+abbrev pub with_entries : List (List ℕ) → Name → Globals → BatchAnswer
+with_entries sorts M G =
+    if nat_le (length G) 200000 then record { lines = map (entry_line sorts) G; entries = G; labels = (M, 0) ∷ []; refused = false }
+    else refusal M (codes "ContextFull 0")
 
--- The reply to the instance of a template under the label M. An instance is found sound, or a name of it is there twice; the reply
--- is the same.
-abbrev pub instance_reply : LabelledFront → Name → Templated → Reply
-instance_reply F M T = reply_to F (instance_of M T.declarations) (Some M) Sound
+abbrev pub answer_loaded : List (List ℕ) → Name → Loaded → BatchAnswer
+answer_loaded sorts M (entered G) = with_entries sorts M G
+answer_loaded sorts M (stopped n e) = refusal M (at_line n (stop_text sorts e))
+answer_loaded sorts M (spent n) = refusal M (at_line n spent_text)
 
--- The instance has entered, and its entries are printed.
-abbrev pub with_instance : List (List ℕ) → Name → Templated → State → State
-with_instance sorts M T s = record {
-  front = left_by s.front (instance_reply s.front M T) (instance_of M T.declarations) (Some M);
-  events = suc s.events;
-  lines = s.lines ++ map (entry_line sorts) (instance_of M T.declarations);
-  units = s.units;
-}
+abbrev pub answer_of : List (List ℕ) → Name → BatchOutcome → BatchAnswer
+answer_of sorts M (bad_file n w) = refusal M (bad_line n w)
+answer_of sorts M (not_built n) = refusal M (codes "NotBuilt " ++ decimal n)
+answer_of sorts M (loaded o) = answer_loaded sorts M o
 
--- The end of a run, and whether a module was refused, so that the run ended there.
-pub record Ended : Type 0 where
-  pub state : State
-  pub refused : Bool
-
-abbrev pub refused_with : Name → List ℕ → State → Ended
-refused_with M text s = record { state = with_lines (refusal_line M text ∷ []) s; refused = true }
-
--- Runs S files b s ms a: after s the modules ms of a library with these files, in this order and each on a budget of b units, come
--- to a. Of each module, what is left of its budget is k. A history has 4,000,000 events at most.
-pub data Runs (S : Specification) (files : List (Name × List ℕ)) (b : ℕ) : State → List Name → Ended → Type 0 where
-  all_passed : {s : State} → Runs S files b s [] (record { state = s; refused = false })
-  has_no_template : {s : State} {M : Name} {ms : List Name} {w : ModuleWhy} {k : ℕ} → ChecksModule S files s.front M b (refused w) k → Runs S files b s (M ∷ ms) (refused_with M (module_text S.sorts w) (with_units (b - k) s))
-  has_parameters : {s : State} {M : Name} {ms : List Name} {T : Templated} {k : ℕ} {a : Ended} → ChecksModule S files s.front M b (template T) k → T.parameters ≢ [] → Runs S files b (with_lines (template_line M T ∷ []) (with_units (b - k) s)) ms a → Runs S files b s (M ∷ ms) a
-  is_not_entered : {s : State} {M : Name} {ms : List Name} {T : Templated} {k : ℕ} → ChecksModule S files s.front M b (template T) k → T.parameters ≡ [] → is_committed (instance_reply s.front M T) ≡ false → Runs S files b s (M ∷ ms) (refused_with M (cause_text (instance_reply s.front M T)) (with_units (b - k) s))
-  history_is_full : {s : State} {M : Name} {ms : List Name} {T : Templated} {k : ℕ} → ChecksModule S files s.front M b (template T) k → T.parameters ≡ [] → is_committed (instance_reply s.front M T) ≡ true → s.events ≡ 4000000 → Runs S files b s (M ∷ ms) (refused_with M (codes "HistoryFull 4000000") (with_units (b - k) s))
-  enters : {s : State} {M : Name} {ms : List Name} {T : Templated} {k : ℕ} {a : Ended} → ChecksModule S files s.front M b (template T) k → T.parameters ≡ [] → is_committed (instance_reply s.front M T) ≡ true → s.events < 4000000 → Runs S files b (with_instance S.sorts M T (with_units (b - k) s)) ms a → Runs S files b s (M ∷ ms) a
-
--- Modules with these names have no order: e comes at the name M, after that the ones before it have theirs.
-pub record HaveNoOrder (files : List (Name × List ℕ)) (names : List Name) (M : Name) (e : OrderFault) : Type 0 where
-  pub before : List Name
-  pub rest : List Name
-  pub ordered : List Name
-  pub at : names ≡ before ++ M ∷ rest
-  pub before_ordered : Orders files [] [] before (Ok ordered)
-  pub fault : Orders files [] ordered (M ∷ []) (Err e)
-
--- All modules are put in order first; then they run.
-pub data Batches (S : Specification) (files : List (Name × List ℕ)) (names : List Name) (b : ℕ) : Ended → Type 0 where
-  have_no_order : {M : Name} {e : OrderFault} → HaveNoOrder files names M e → Batches S files names b (refused_with M (order_text e) start)
-  run : {ms : List Name} {a : Ended} → Orders files [] [] names (Ok ms) → Runs S files b start ms a → Batches S files names b a
+-- The module is answered so, its budget being b, and so many units were spent.
+abbrev pub BatchAnswers : Specification → Name → List ℕ → ℕ → BatchAnswer → ℕ → Type 0
+BatchAnswers S M bytes b a units = (o : BatchOutcome) × ((k : ℕ) × Batches S M bytes b o k × (units + k ≡ b)) × (a ≡ answer_of S.sorts M o)

@@ -2,8 +2,8 @@
 use Rattle.std.specs.Prelude.{◌≡◌, ℕ, List}
 use Rattle.pts_names.specs.Name.{Name}
 use Rattle.pts_ctx.specs.System.{Specification}
-use Rattle.pts_batch.specs.Shown.{BatchAnswer, BatchAnswers}
+use Rattle.pts_batch.specs.Batches.{BatchAnswer, BatchAnswers}
 
--- Modules have one answer at most, the units that they cost among it.
-abbrev pub BatchesHaveOneAnswer : Type 0
-BatchesHaveOneAnswer = (S : Specification) (files : List (Name × List ℕ)) (names : List Name) (b : ℕ) (a c : BatchAnswer) → BatchAnswers S files names b a → BatchAnswers S files names b c → a ≡ c
+-- A module has one answer at most, at one cost.
+abbrev pub ModulesHaveOneAnswer : Type 0
+ModulesHaveOneAnswer = (S : Specification) (M : Name) (bytes : List ℕ) (b : ℕ) (a c : BatchAnswer) (u v : ℕ) → BatchAnswers S M bytes b a u → BatchAnswers S M bytes b c v → (a ≡ c) × (u ≡ v)

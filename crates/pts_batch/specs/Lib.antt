@@ -1,4 +1,6 @@
+pub mod Loading
 pub mod Batches
+pub mod Evidence
+pub mod Calls
 pub mod Shown
-pub mod Running
 pub mod Laws

@@ -115,21 +115,18 @@ short_more : (ds : List (ℕ × (Declaring × Line))) (n : ℕ) (d : Declaring �
 short_more [] n d h a = (h, tt)
 short_more (r ∷ rs) n d h a = (a.0, short_more rs n d h a.1)
 
-abbrev Shorts : File → Type 0
-Shorts f = AllShort f.assumed × AllShort f.stated
-
-short_with : (f : File) (n : ℕ) (e : FileLine) → EntryShort e → Shorts f → Shorts (with_entry f n e)
+short_with : (f : File) (n : ℕ) (e : FileLine) → EntryShort e → AllShort f.stated → AllShort (with_entry f n e).stated
 short_with f n passed h a = a
 short_with f n fixed h a = a
 short_with f n (uses x) h a = a
-short_with f n (declares (declaring.Parameter, L)) h a = (short_more f.assumed n (declaring.Parameter, L) h a.0, a.1)
-short_with f n (declares (declaring.Assume, L)) h a = (a.0, short_more f.stated n (declaring.Assume, L) h a.1)
-short_with f n (declares (declaring.Define, L)) h a = (a.0, short_more f.stated n (declaring.Define, L) h a.1)
+short_with f n (declares (declaring.Parameter, L)) h a = a
+short_with f n (declares (declaring.Assume, L)) h a = short_more f.stated n (declaring.Assume, L) h a
+short_with f n (declares (declaring.Define, L)) h a = short_more f.stated n (declaring.Define, L) h a
 
 abbrev Both : Name → File → Type 0
-Both asked g = (is_short asked ≡ true) × Shorts g
+Both asked g = (is_short asked ≡ true) × AllShort g.stated
 
-ended_short : (asked : Name) (s : Stage) (n : ℕ) (f g : File) → at_last s n f ≡ Ok g → Named asked s → Shorts f → Both asked g
+ended_short : (asked : Name) (s : Stage) (n : ℕ) (f g : File) → at_last s n f ≡ Ok g → Named asked s → AllShort f.stated → Both asked g
 ended_short asked Ended n f g h short a = let e : f ≡ g = cc h in subst (Both asked) e (short, a)
 ended_short asked Format n f g h short a = absurd (cc h)
 ended_short asked Module n f g h short a = absurd (cc h)
@@ -137,18 +134,18 @@ ended_short asked Uses n f g h short a = absurd (cc h)
 ended_short asked Parameters n f g h short a = absurd (cc h)
 ended_short asked Declarations n f g h short a = absurd (cc h)
 
-behind_short : (asked : Name) (s : Stage) (n : ℕ) (f g : File) (others : Stage → File → Result File (ℕ × FileWhy)) → ((r : Stage) (e : File) → others r e ≡ Ok g → Named asked r → Shorts e → Both asked g) → (x : Result (Stage × FileLine) FileWhy) → Fine asked s x → behind_line n f x others ≡ Ok g → Named asked s → Shorts f → Both asked g
+behind_short : (asked : Name) (s : Stage) (n : ℕ) (f g : File) (others : Stage → File → Result File (ℕ × FileWhy)) → ((r : Stage) (e : File) → others r e ≡ Ok g → Named asked r → AllShort e.stated → Both asked g) → (x : Result (Stage × FileLine) FileWhy) → Fine asked s x → behind_line n f x others ≡ Ok g → Named asked s → AllShort f.stated → Both asked g
 behind_short asked s n f g others later (Ok r) fine h short a = later r.0 (with_entry f n r.1) h (fine.1 short) (short_with f n r.1 fine.0 a)
 behind_short asked s n f g others later (Err w) fine h short a = absurd (cc h)
 
-read_short : (asked : Name) (s : Stage) (n : ℕ) (f g : File) (lines : List (List ℕ)) → read_lines asked s n f lines ≡ Ok g → Named asked s → Shorts f → Both asked g
+read_short : (asked : Name) (s : Stage) (n : ℕ) (f g : File) (lines : List (List ℕ)) → read_lines asked s n f lines ≡ Ok g → Named asked s → AllShort f.stated → Both asked g
 read_short asked s n f g [] h short a = ended_short asked s n f g h short a
 read_short asked s n f g (line ∷ lines) h short a = behind_short asked s n f g (λ r e. read_lines asked r (suc n) e lines) (λ r e k. read_short asked r (suc n) e g lines k) (line_at asked s line) (fine_line asked s line) h short a
 
 -- The names of a module that is read, and its own, are short.
-pub all_short : (asked : Name) (bytes : List ℕ) (g : File) → module_of asked bytes ≡ Ok g → (is_short asked ≡ true) × AllShort g.assumed × AllShort g.stated
+pub all_short : (asked : Name) (bytes : List ℕ) (g : File) → module_of asked bytes ≡ Ok g → (is_short asked ≡ true) × AllShort g.stated
 unfolding module_of
-all_short asked bytes g h = read_short asked Format 1 (record { used = []; assumed = []; stated = [] }) g (lines_of bytes) (unfolded asked bytes g h) tt (tt, tt)
+all_short asked bytes g h = read_short asked Format 1 (record { used = []; assumed = []; stated = [] }) g (lines_of bytes) (unfolded asked bytes g h) tt tt
   where
     unfolded : (x : Name) (bs : List ℕ) (f : File) → module_of x bs ≡ Ok f → read_lines x Format 1 (record { used = []; assumed = []; stated = [] }) (lines_of bs) ≡ Ok f
     unfolded x bs f e = e

@@ -39,7 +39,6 @@ pub struct ModuleFile {
 pub fn read_module(alloc: Global, name: &Name, bytes: &[u8]) -> Result<ModuleFile, FileFault>
     ensures module { IfOk result (λ m. module_of name.now bytes.now ≡ Ok (module_file_of m)) }
     ensures short { IfOk result (λ m. is_short name.now ≡ true) }
-    ensures parameters { IfOk result (λ m. AllShort (module_file_of m).assumed) }
     ensures names { IfOk result (λ m. AllShort (module_file_of m).stated) }
     ensures refused { IfErr result (λ e. RefusesModule name.now bytes.now e) }
 {

@@ -1,10 +1,4 @@
 pub mod Shelves
 pub mod Orders
 pub mod Stacks
-pub mod Stating
-pub mod Loading
-pub mod Checking
-pub mod Templates
-pub mod Refusals
-pub mod FaultText
 pub mod Laws

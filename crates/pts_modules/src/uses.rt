@@ -1,9 +1,8 @@
 // What is done about the name of a module.
 
 ghost use Rattle.std.specs.Prelude.{◌≡◌, Ok, IfOk, IfErr, MatchOption};
-ghost use Rattle.pts_module_file.specs.File.{AllShort, module_file_of};
-ghost use Rattle.pts_modules.specs.Orders.{UnlessMemory, is_in, opens, stopped, turn_by_bytes, turn_of, used_by};
-ghost use Rattle.pts_modules.specs.Shelves.{file_among};
+ghost use Rattle.pts_module_file.specs.File.{module_file_of};
+ghost use Rattle.pts_modules.specs.Orders.{UnlessMemory, is_in, stopped, turn_of, used_by};
 ghost use Rattle.pts_modules.specs.Stacks.{Goes, is_open, names_open};
 
 use crate::{OrderFault, Shelf};
@@ -36,28 +35,11 @@ pub(crate) fn uses_of(
     if is_opened(opened, name) {
         return Err(OrderFault::CycleOfUses(name.copy()?));
     }
-    match file_on(alloc, shelf, name) {
-        Ok(file) => Ok(Some(names_used(alloc, &file)?)),
-        Err(fault) => Err(fault),
-    }
-}
-
-/// The file of the module with this name.
-///
-/// # Errors
-///
-/// `NoModule`, or `BadFile` with the first line that breaks the format. `Memory`.
-pub(crate) fn file_on(alloc: Global, shelf: &Shelf, name: &Name) -> Result<ModuleFile, OrderFault>
-    ensures file { IfOk result (λ f. turn_by_bytes name.now (file_among shelf.now.modules name.now) ≡ opens (module_file_of f)) }
-    ensures parameters { IfOk result (λ f. AllShort (module_file_of f).assumed) }
-    ensures names { IfOk result (λ f. AllShort (module_file_of f).stated) }
-    ensures refused { IfErr result (UnlessMemory (λ e. turn_by_bytes name.now (file_among shelf.now.modules name.now) ≡ stopped e)) }
-{
     let Some(bytes) = shelf.module(name) else {
         return Err(OrderFault::NoModule(name.copy()?));
     };
     match read_module(alloc, name, bytes) {
-        Ok(file) => Ok(file),
+        Ok(file) => Ok(Some(names_used(alloc, &file)?)),
         Err(FileFault::BadFile(line, why)) => Err(OrderFault::BadFile(line, why)),
         Err(FileFault::Memory) => Err(OrderFault::Memory),
     }
@@ -94,8 +76,8 @@ fn is_one_of(opened: &[Opened], name: &Name) -> bool
     false
 }
 
-/// The names of the modules that a file uses.
-pub(crate) fn names_used(alloc: Global, file: &ModuleFile) -> Result<Vec<Name>, AllocError>
+// The names of the modules that a file uses.
+fn names_used(alloc: Global, file: &ModuleFile) -> Result<Vec<Name>, AllocError>
     ensures { IfOk result (λ v. v.items ≡ used_by (module_file_of file.now)) }
 {
     let mut names = Vec::new(alloc);

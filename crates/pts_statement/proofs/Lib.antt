@@ -1,4 +1,2 @@
 pub mod Stating
 pub mod Once
-pub mod Naming
-pub mod Parts

@@ -3,7 +3,7 @@ use Rattle.std.specs.Prelude.{List}
 use Rattle.pts_names.specs.Name.{Name}
 use Rattle.pts_ctx.specs.Front.{Global}
 
--- The labels that the file uses, and the front in which what it has declared stands too.
+-- The label of a module, and the front in which its declarations stand.
 pub record SeenScope : Type 0 where
-  pub used : List Name
+  pub label : Name
   pub entries : List (Global Name)

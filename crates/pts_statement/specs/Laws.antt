@@ -1,5 +1,5 @@
 -- The law of statements.
-use Rattle.std.specs.Prelude.{◌≡◌, ℕ, List}
+use Rattle.std.specs.Prelude.{◌≡◌, ℕ}
 use Rattle.pts_names.specs.Name.{Name}
 use Rattle.pts_ctx.specs.System.{Specification}
 use Rattle.pts_reduce_cost.specs.Costs.{Globals}
@@ -8,4 +8,4 @@ use Rattle.pts_statement.specs.Declaring.{StatementOutcome, Declares}
 
 -- There is one outcome at most, at one cost.
 abbrev pub StatementsHaveOneOutcome : Type 0
-StatementsHaveOneOutcome = (S : Specification) (U : List Name) (G : Globals) (d : Statement) (o p : StatementOutcome) (m n : ℕ) → Declares S U G d o m → Declares S U G d p n → (o ≡ p) × (m ≡ n)
+StatementsHaveOneOutcome = (S : Specification) (M : Name) (G : Globals) (d : Statement) (o p : StatementOutcome) (m n : ℕ) → Declares S M G d o m → Declares S M G d p n → (o ≡ p) × (m ≡ n)

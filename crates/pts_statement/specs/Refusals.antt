@@ -1,5 +1,5 @@
 -- What is answered where a statement is refused.
-use Rattle.std.specs.Prelude.{◌≡◌, ◌≢◌, ℕ, List, Some, Result, Ok, Err}
+use Rattle.std.specs.Prelude.{◌≡◌, ◌≢◌, ℕ, Some, Result, Ok, Err}
 use Rattle.pts_names.specs.Name.{Name}
 use Rattle.pts_ctx.specs.System.{Specification}
 use Rattle.pts_ctx.specs.Seen.{place_of}
@@ -23,21 +23,21 @@ use Rattle.pts_statement.specs.Statements.{Statement, stated, visible}
 use Rattle.pts_statement.specs.Declaring.{unread, taken, ill_typed, Declares}
 
 -- The part is the one that belongs to what the statement states.
-abbrev pub IsPartOf : Specification → List Name → Globals → Statement → (Stated → Part) → Part → Type 0
-IsPartOf S U G d part_of part = (s : Stated) × (stated S.sorts (visible U G) d ≡ Ok s) × (part ≡ part_of s)
+abbrev pub IsPartOf : Specification → Name → Globals → Statement → (Stated → Part) → Part → Type 0
+IsPartOf S M G d part_of part = (s : Stated) × (stated S.sorts (visible M G) d ≡ Ok s) × (part ≡ part_of s)
 
--- The statement d of a file that uses the labels U, over the front G, with b units before and k after it: its outcome is the reason that the
+-- The statement d of the module M over the front G, with b units before and k after it: its outcome is the reason that the
 -- fault names, or something beyond the limits; or each outcome costs more than b, and nothing is left. Out of memory is free,
 -- and `Memory` alone says so.
-abbrev pub RefusesStatement : Specification → List Name → Globals → Statement → StatementFault → ℕ → ℕ → Type 0
-RefusesStatement S U G d (Read e) b k = (e ≢ read.Memory) × WithinBudget (Declares S U G d) b (stops (by_flaw (unread e))) k
-RefusesStatement S U G d (Taken x p) b k = WithinBudget (Declares S U G d) b (stops (by_flaw (taken x p))) k
-RefusesStatement S U G d (Declare (declare.Infer part (infer.Flaw f))) b k = WithinBudget (Declares S U G d) b (stops (by_flaw (ill_typed (flawed part (flaw_seen f))))) k
-RefusesStatement S U G d (Declare (declare.Infer part infer.Spent)) b k = AboveBudget (Declares S U G d) b × (k ≡ 0) × IsPartOf S U G d spent_part part
-RefusesStatement S U G d (Declare (declare.Infer part infer.Deep)) b k = WithinBudget (Declares S U G d) b (stops by_limits) k × IsPartOf S U G d deep_part part
-RefusesStatement S U G d (Declare (declare.Infer part infer.Memory)) b k = ⊥
-RefusesStatement S U G d (Declare declare.Memory) b k = ⊥
-RefusesStatement S U G d Memory b k = Unit {0}
+abbrev pub RefusesStatement : Specification → Name → Globals → Statement → StatementFault → ℕ → ℕ → Type 0
+RefusesStatement S M G d (Read e) b k = (e ≢ read.Memory) × WithinBudget (Declares S M G d) b (stops (by_flaw (unread e))) k
+RefusesStatement S M G d (Taken x p) b k = WithinBudget (Declares S M G d) b (stops (by_flaw (taken x p))) k
+RefusesStatement S M G d (Declare (declare.Infer part (infer.Flaw f))) b k = WithinBudget (Declares S M G d) b (stops (by_flaw (ill_typed (flawed part (flaw_seen f))))) k
+RefusesStatement S M G d (Declare (declare.Infer part infer.Spent)) b k = AboveBudget (Declares S M G d) b × (k ≡ 0) × IsPartOf S M G d spent_part part
+RefusesStatement S M G d (Declare (declare.Infer part infer.Deep)) b k = WithinBudget (Declares S M G d) b (stops by_limits) k × IsPartOf S M G d deep_part part
+RefusesStatement S M G d (Declare (declare.Infer part infer.Memory)) b k = ⊥
+RefusesStatement S M G d (Declare declare.Memory) b k = ⊥
+RefusesStatement S M G d Memory b k = Unit {0}
 
 -- Why a name is not free.
 abbrev pub NotFree : Name → Globals → StatementFault → Type 0

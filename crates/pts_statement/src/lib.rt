@@ -17,6 +17,6 @@ pub use pts_names::Name;
 pub use pts_parser::{ReadFault, Tree};
 pub use pts_record::Declaration;
 pub use pts_rules::Meter;
-pub use scope::{FileScope, Uses};
+pub use scope::FileScope;
 pub use statements::{assume, define};
 pub use words::fault_text;

@@ -18,8 +18,8 @@ IsRun (Some check) l l_after s s_after k k_after status orders entries labels =
     IsCheckRun s s_after k k_after status entries labels × (orders ≡ [])
 IsRun (Some (format name)) l l_after s s_after k k_after status orders entries labels =
     IsFormatRun name l l_after s s_after k k_after status × (orders ≡ []) × (entries ≡ []) × (labels ≡ [])
-IsRun (Some (batch name names)) l l_after s s_after k k_after status orders entries labels =
-    IsBatchRun name names l l_after k k_after status entries labels × TakesNothing s s_after × (orders ≡ [])
+IsRun (Some (batch name M)) l l_after s s_after k k_after status orders entries labels =
+    IsBatchRun name M l l_after k k_after status entries labels × TakesNothing s s_after × (orders ≡ [])
 IsRun (Some (replay name)) l l_after s s_after k k_after status orders entries labels =
     IsReplayRun name l l_after s s_after k k_after status orders (record { entries = entries; labels = labels })
 
@@ -28,5 +28,5 @@ abbrev pub reads_files : Option Command → Bool
 reads_files None = false
 reads_files (Some check) = false
 reads_files (Some (format name)) = true
-reads_files (Some (batch name names)) = true
+reads_files (Some (batch name M)) = true
 reads_files (Some (replay name)) = true

@@ -1,5 +1,5 @@
 -- The forms of words.
-use Rattle.std.specs.Prelude.{ℕ, List, [], ◌∷◌, ◌&&◌, ◌||◌, not, map, string_bytes, Bool, true, false, length, nat_le, if◌then◌else◌, codes, Option, Some, None}
+use Rattle.std.specs.Prelude.{ℕ, List, [], ◌∷◌, ◌&&◌, Bool, length, nat_le, if◌then◌else◌, codes, Option, Some, None}
 use Rattle.pts_names.specs.Name.{same_name, is_plain}
 use Rattle.yarrow.specs.declared.command.Command.{Command as Asked}
 use Rattle.yarrow.specs.declared.command.Command.TheVariants as asked
@@ -8,7 +8,7 @@ use Rattle.yarrow.specs.declared.command.Command.TheVariants as asked
 pub data Command : Type 0 where
   check : Command
   format : (specification : List ℕ) → Command
-  batch : (specification : List ℕ) → (names : List (List ℕ)) → Command
+  batch : (specification name : List ℕ) → Command
   replay : (specification : List ℕ) → Command
 
 -- `check` is alone.
@@ -25,23 +25,9 @@ format_with _ = None
 abbrev pub is_module : List ℕ → Bool
 is_module word = is_plain word && nat_le (length word) 128
 
-abbrev pub is_among : List ℕ → List (List ℕ) → Bool
-is_among word [] = false
-is_among word (w ∷ ws) = same_name word w || is_among word ws
-
--- Words that name modules, none of them twice.
-abbrev pub all_modules : List (List ℕ) → Bool
-all_modules [] = true
-all_modules (w ∷ ws) = (is_module w && not (is_among w ws)) && all_modules ws
-
--- The same of 1 to 64 words.
-abbrev pub are_modules : List (List ℕ) → Bool
-are_modules [] = false
-are_modules (w ∷ ws) = nat_le (length (w ∷ ws)) 64 && all_modules (w ∷ ws)
-
--- After `batch` come one word that isn't empty and 1 to 64 that name modules.
+-- After `batch` come one word that isn't empty and one that names a module.
 abbrev pub batch_with : List (List ℕ) → Option Command
-batch_with ((b ∷ bs) ∷ names) = if are_modules names then Some (batch (b ∷ bs) names) else None
+batch_with ((b ∷ bs) ∷ (name ∷ [])) = if is_module name then Some (batch (b ∷ bs) name) else None
 batch_with _ = None
 
 -- After `replay` comes one word that isn't empty.
@@ -62,5 +48,5 @@ command_of (w ∷ ws) =
 abbrev pub command_seen : Asked → Command
 command_seen asked.Check = check
 command_seen (asked.Format word) = format word.now
-command_seen (asked.Batch word names) = batch word.now (map string_bytes names.now)
+command_seen (asked.Batch word name) = batch word.now name.now
 command_seen (asked.Replay word) = replay word.now

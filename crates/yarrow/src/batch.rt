@@ -1,38 +1,39 @@
 // The command `batch`.
 
-ghost use Rattle.std.specs.Prelude.{◌≡◌, ◌++◌, ℕ, [], codes, map, true, take, Err, IfOk, OnOk, string_bytes};
+ghost use Rattle.std.specs.Prelude.{◌≡◌, ◌++◌, ℕ, [], codes, true, take, Err, IfOk, OnOk, string_bytes};
 ghost use Rattle.pts_ctx.specs.Front.{bare_front};
 ghost use Rattle.pts_rules.specs.Derives.{Legal};
 ghost use Rattle.pts_spec.specs.SpecFile.{system_of};
-ghost use Rattle.pts_batch.specs.Shown.{BatchAnswers, answer_seen};
-ghost use Rattle.yarrow.specs.Commands.{are_modules};
+ghost use Rattle.pts_batch.specs.Batches.{BatchAnswers};
+ghost use Rattle.pts_batch.specs.Shown.{answer_seen};
+ghost use Rattle.yarrow.specs.Commands.{is_module};
 ghost use Rattle.yarrow.specs.Runs.{Prints, PrintsPart, Writes};
-ghost use Rattle.yarrow.specs.Batches.{IsBatchRun, IsLegalIn, FilesPrint, AnswerPrints, ModulesPrint, text_of, done_line};
+ghost use Rattle.yarrow.specs.Batches.{IsBatchRun, IsLegalIn, FilesPrint, AnswerPrints, ModulePrints, text_of, done_line};
 
 use crate::run::{Finish, ended, printed, without_memory};
 use crate::system::{file_named, print_unready, system_in};
-use crate::shelves::{module_name, shelf_of};
-use pts_batch::{Batch, Shelf, World, batch};
+use pts_batch::{Batch, World, batch};
+use pts_ctx::System;
 use pts_io::{Library, Sink, write_whole};
-use pts_names::Text;
+use pts_names::{Name, NameFault, Text};
 use std::alloc::{AllocError, Global};
 use std::mem::forget;
 
 /// How many units the statements of a module may cost.
 pub const BUDGET: u64 = 1_000_000;
 
-/// Reads the library's file of this name, and then the files of the modules, in this order, and checks the modules over the
-/// empty context, in the system that the first file specifies. Each declaration is printed with its type, and last `done`
-/// with their number; or one line says why a module is refused, or what is not there.
+/// Reads the system that the library's file of this name specifies and the file of the module, in this order, and checks
+/// the module over the empty context. Each declaration is printed with its type, and last `done` with their number; or one
+/// line says why the module is refused, or what is not there.
 pub fn run_batch<K: Sink, L: Library>(
     alloc: Global,
     spec: &str,
-    names: &[String],
+    name: &str,
     sink: &mut K,
     library: &mut L,
 ) -> Finish
-    requires named { are_modules (map string_bytes names.now) ≡ true }
-    ensures batch { IsBatchRun spec.now (map string_bytes names.now) (L.state library.old) (L.state library.new)
+    requires named { is_module name.now ≡ true }
+    ensures batch { IsBatchRun spec.now name.now (L.state library.old) (L.state library.new)
         (K.state sink.old) (K.state sink.new) result.status result.context.entries result.context.labels }
     ensures order { result.order ≡ [] }
     ensures files { (L.state library.new).files ≡ (L.state library.old).files }
@@ -41,60 +42,86 @@ pub fn run_batch<K: Sink, L: Library>(
         Ok(text) => text,
         Err(why) => return print_unready(alloc, spec, &why, sink),
     };
-    match shelf_of(alloc, names, library) {
-        Ok(shelf) => batch_files(alloc, spec, names, text.as_slice(), shelf, sink),
-        Err(lacking) => print_unready(alloc, lacking.file.as_str(), &lacking.why, sink),
+    let Ok(file) = format!(in alloc; "{name}.yar") else {
+        return without_memory(alloc);
+    };
+    match file_named(alloc, file.as_str(), library) {
+        Ok(bytes) => batch_files(alloc, spec, name, text.as_slice(), bytes.as_slice(), sink),
+        Err(why) => print_unready(alloc, file.as_str(), &why, sink),
     }
 }
 
-// Answers the files of the modules, by the text of the specification.
+// Answers the file of the module, by the text of the specification.
 fn batch_files<K: Sink>(
     alloc: Global,
     spec: &str,
-    names: &[String],
+    name: &str,
     text: &[u8],
-    shelf: Shelf,
+    bytes: &[u8],
     sink: &mut K,
 ) -> Finish
-    requires named { are_modules (map string_bytes names.now) ≡ true }
+    requires named { is_module name.now ≡ true }
     ensures prints { Writes
-        (λ status out. FilesPrint spec.now text.now shelf.modules (map string_bytes names.now) status out result.context.entries result.context.labels)
+        (λ status out. FilesPrint spec.now name.now text.now bytes.now status out result.context.entries result.context.labels)
         (K.state sink.old) (K.state sink.new) result.status }
     ensures legal { IsLegalIn (system_of text.now) result.context.entries }
     ensures order { result.order ≡ [] }
 {
     match system_in(alloc, text) {
-        Ok(system) => batch_modules(alloc, World { system, shelf }, names, sink),
+        Ok(system) => batch_module(alloc, system, name, bytes, sink),
         Err(why) => print_unready(alloc, spec, &why, sink),
     }
 }
 
-// Answers the files of the modules in a system.
-fn batch_modules<K: Sink>(alloc: Global, world: World, names: &[String], sink: &mut K) -> Finish
-    requires named { are_modules (map string_bytes names.now) ≡ true }
+// Answers the file of the module in a system.
+fn batch_module<K: Sink>(
+    alloc: Global,
+    system: System,
+    name: &str,
+    bytes: &[u8],
+    sink: &mut K,
+) -> Finish
+    requires named { is_module name.now ≡ true }
     ensures prints { Writes
-        (λ status out. ModulesPrint world.system world.shelf.modules (map string_bytes names.now) status out result.context.entries result.context.labels)
+        (λ status out. ModulePrints system name.now bytes.now status out result.context.entries result.context.labels)
         (K.state sink.old) (K.state sink.new) result.status }
-    ensures legal { Legal world.system (bare_front result.context.entries) }
+    ensures legal { Legal system (bare_front result.context.entries) }
     ensures order { result.order ≡ [] }
 {
-    match answer_modules(alloc, &world, names) {
+    match answer_module(alloc, system, name, bytes) {
         Ok(batch) => print_batch(alloc, batch, sink),
         Err(_) => without_memory(alloc),
     }
 }
 
-// The answer to the files of the modules.
-fn answer_modules(alloc: Global, world: &World, names: &[String]) -> Result<Batch, AllocError>
-    requires named { are_modules (map string_bytes names.now) ≡ true }
-    ensures answer { IfOk result (λ r. BatchAnswers world.now.system world.now.shelf.modules (map string_bytes names.now) 1000000 (answer_seen r)) }
-    ensures legal { IfOk result (λ r. Legal world.now.system (bare_front r.context.entries)) }
+// The answer to the file of the module in a system.
+fn answer_module(
+    alloc: Global,
+    system: System,
+    name: &str,
+    bytes: &[u8],
+) -> Result<Batch, AllocError>
+    requires named { is_module name.now ≡ true }
+    ensures answer { IfOk result (λ r. BatchAnswers system name.now bytes.now 1000000 (answer_seen r) r.units) }
+    ensures legal { IfOk result (λ r. Legal system (bare_front r.context.entries)) }
 {
-    let mut modules = Vec::with_capacity(alloc, names.len())?;
-    for name in names {
-        modules.push(module_name(alloc, name.as_str())?)?;
+    let name = module_name(alloc, name)?;
+    let world = World { system };
+    batch(alloc, &world, &name, bytes, BUDGET)
+}
+
+// The name of the module.
+fn module_name(alloc: Global, text: &str) -> Result<Name, AllocError>
+    requires named { is_module text.now ≡ true }
+    ensures { IfOk result (λ name. name ≡ text.now) }
+{
+    match Name::read(alloc, text) {
+        Ok(name) => Ok(name),
+        Err(fault) => match fault {
+            NameFault::Memory => Err(AllocError),
+            _ => unreachable!(),
+        },
     }
-    batch(alloc, world, &modules, BUDGET)
 }
 
 // Prints an answer.

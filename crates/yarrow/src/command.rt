@@ -1,7 +1,7 @@
 // What the words ask for.
 
 ghost use Rattle.std.specs.Prelude.{◌≡◌, Some, None, map, string_bytes, MatchOption};
-ghost use Rattle.yarrow.specs.Commands.{command_of, command_seen, check_with, format_with, batch_with, replay_with, is_module, is_among, all_modules, are_modules};
+ghost use Rattle.yarrow.specs.Commands.{command_of, command_seen, check_with, format_with, batch_with, replay_with, is_module};
 
 use pts_names::is_identifier;
 
@@ -12,8 +12,8 @@ pub(crate) enum Command<'a> {
     Check,
     /// `format SPEC`
     Format(&'a str),
-    /// `batch SPEC MODULE..`
-    Batch(&'a str, &'a [String]),
+    /// `batch SPEC MODULE`
+    Batch(&'a str, &'a str),
     /// `replay SPEC`
     Replay(&'a str),
 }
@@ -65,8 +65,8 @@ fn batch_with(words: &[String]) -> Option<Command<'_>>
         (λ c. batch_with (map string_bytes words.now) ≡ Some (command_seen c)) }
 {
     match words {
-        [word, names @ ..] if !word.is_empty() && are_modules(names) => {
-            Some(Command::Batch(word.as_str(), names))
+        [word, name] if !word.is_empty() && is_module(name.as_str()) => {
+            Some(Command::Batch(word.as_str(), name.as_str()))
         }
         _ => None,
     }
@@ -81,39 +81,6 @@ fn replay_with(words: &[String]) -> Option<Command<'_>>
         [word] if !word.is_empty() => Some(Command::Replay(word.as_str())),
         _ => None,
     }
-}
-
-// Whether the words name modules, from 1 to 64 of them and none twice.
-fn are_modules(words: &[String]) -> bool
-    ensures { result ≡ are_modules (map string_bytes words.now) }
-{
-    !words.is_empty() && words.len() <= 64 && all_modules(words)
-}
-
-// Whether each word names a module, and none stands there twice.
-fn all_modules(words: &[String]) -> bool
-    ensures { result ≡ all_modules (map string_bytes words.now) }
-{
-    let mut rest = words;
-    while let [word, later @ ..] = rest {
-        if !is_module(word.as_str()) || is_among(word.as_str(), later) {
-            return false;
-        }
-        rest = later;
-    }
-    true
-}
-
-// Whether a text is one of the words.
-fn is_among(text: &str, words: &[String]) -> bool
-    ensures { result ≡ is_among text.now (map string_bytes words.now) }
-{
-    for word in words {
-        if text == word.as_str() {
-            return true;
-        }
-    }
-    false
 }
 
 // Whether the word names a module.

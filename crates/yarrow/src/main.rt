@@ -1,5 +1,5 @@
 // The program: `check` reads a certificate from standard input and checks it, `format` reads terms and prints them, `batch`
-// checks the declarations of modules, `replay` plays rounds of sessions that share one context.
+// checks the declarations of a module, `replay` plays rounds of sessions that share one context.
 // It writes what the definition of the answer says, and the context that it hands back is legal.
 // Stands on the checker, the readers of certificates, specifications and terms, batches, sessions, and the outside.
 #![tactic(auto)]
@@ -13,7 +13,6 @@ mod enter;
 mod format;
 mod replay;
 mod run;
-mod shelves;
 mod system;
 #[cfg(test)]
 mod tests;

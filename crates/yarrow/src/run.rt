@@ -27,9 +27,9 @@ pub struct Finish {
     pub order: List<List<u32>>,
 }
 
-/// Runs the program with the words after its own name. The forms are `check`, `format SPEC`, `batch SPEC MODULE..` and
-/// `replay SPEC`, where SPEC is any word that isn't empty, and the MODULEs are from 1 to 64 plain names of at most 128 bytes,
-/// none twice; all other words print `usage`, with status 2, and take nothing from the source.
+/// Runs the program with the words after its own name. The forms are `check`, `format SPEC`, `batch SPEC MODULE` and
+/// `replay SPEC`, where SPEC is any word that isn't empty and MODULE is a plain name of at most 128 bytes; all other words
+/// print `usage`, with status 2, and take nothing from the source.
 pub fn run<S: Source, K: Sink, L: Library>(
     alloc: Global,
     words: &[String],
@@ -46,7 +46,7 @@ pub fn run<S: Source, K: Sink, L: Library>(
     match command_of(words) {
         Some(Command::Check) => run_check(alloc, source, sink),
         Some(Command::Format(name)) => run_format(alloc, name, source, sink, library),
-        Some(Command::Batch(spec, names)) => run_batch(alloc, spec, names, sink, library),
+        Some(Command::Batch(spec, name)) => run_batch(alloc, spec, name, sink, library),
         Some(Command::Replay(name)) => run_replay(alloc, name, source, sink, library),
         None => printed(alloc, sink, 2, b"usage\n", Context::new(alloc)),
     }

@@ -11,14 +11,8 @@ returns-clause-short c =
     let bytes = c.args.bytes.now in
     IfOk-weaker c.read_all.result (λ m. module_of x bytes ≡ Ok (module_file_of m)) (λ m. is_short x ≡ true) (λ m h. (all_short x bytes (module_file_of m) h).0) c.read_all.ensures.module
 
-pub returns-clause-parameters : goal.returns-clause-parameters
-returns-clause-parameters c =
-    let x = c.args.name.now in
-    let bytes = c.args.bytes.now in
-    IfOk-weaker c.read_all.result (λ m. module_of x bytes ≡ Ok (module_file_of m)) (λ m. AllShort (module_file_of m).assumed) (λ m h. (all_short x bytes (module_file_of m) h).1) c.read_all.ensures.module
-
 pub returns-clause-names : goal.returns-clause-names
 returns-clause-names c =
     let x = c.args.name.now in
     let bytes = c.args.bytes.now in
-    IfOk-weaker c.read_all.result (λ m. module_of x bytes ≡ Ok (module_file_of m)) (λ m. AllShort (module_file_of m).stated) (λ m h. (all_short x bytes (module_file_of m) h).2) c.read_all.ensures.module
+    IfOk-weaker c.read_all.result (λ m. module_of x bytes ≡ Ok (module_file_of m)) (λ m. AllShort (module_file_of m).stated) (λ m h. (all_short x bytes (module_file_of m) h).1) c.read_all.ensures.module
