@@ -1,4 +1,3 @@
 pub mod Answered
 pub mod Works
 pub mod Refining
-pub mod Applications
