@@ -1,3 +1,2 @@
 pub mod Drafts
 pub mod Refusals
-pub mod Renaming

@@ -6,9 +6,8 @@
 mod copies;
 mod draft;
 mod fault;
-mod renaming;
 mod scopes;
 
 pub use draft::Draft;
-pub use fault::{DraftFault, RenameFault};
+pub use fault::DraftFault;
 pub use pts_declare::{InferFault, Part};

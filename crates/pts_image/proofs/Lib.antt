@@ -4,7 +4,6 @@ pub mod Heads
 pub mod Rows
 pub mod Renamed
 pub mod RenamedFronts
-pub mod RenamedTerms
 pub mod Trails
 pub mod ImageTrees
 pub mod ImageLines
