@@ -1,0 +1,14 @@
+pub mod State
+pub mod Replies
+pub mod Declaring
+pub mod Faults
+pub mod Drafting
+pub mod Goals
+pub mod Commands
+pub mod Theorems
+pub mod Lines
+pub mod Ways
+pub mod Seen
+pub mod Asking
+pub mod Refined
+pub mod Code
