@@ -1,6 +1,5 @@
 import os
 import sys
-import tempfile
 import unittest
 
 from yarrow_prompt.engine import Ended, Engine, Round
@@ -47,8 +46,7 @@ class Sessions(unittest.TestCase):
 
     def take(self, *lines):
         for line in lines:
-            self.session.learn(self.session.ask([line]).replies)
-            self.session.keep(line)
+            self.session.take(line, self.session.ask([line]))
 
     def test_names_that_stand(self):
         self.take("assume A : *", "define b : A := c", "commit", "assume D : *")

@@ -28,5 +28,23 @@ class Heard(unittest.TestCase):
             pass
 
 
+class Hangups(unittest.TestCase):
+    def setUp(self):
+        for it in (signal.SIGHUP, signal.SIGTERM):
+            self.addCleanup(signal.signal, it, signal.getsignal(it))
+        self.interrupts = Interrupts()
+        self.interrupts.leave_at_hangup()
+
+    def test_a_hangup_ends_the_prompt_once(self):
+        with self.assertRaises(SystemExit) as caught:
+            os.kill(os.getpid(), signal.SIGHUP)
+        self.assertEqual(caught.exception.code, 129)
+        os.kill(os.getpid(), signal.SIGTERM)
+
+    def test_an_end_is_not_hurried(self):
+        self.interrupts.end()
+        os.kill(os.getpid(), signal.SIGHUP)
+
+
 if __name__ == "__main__":
     unittest.main()

@@ -12,7 +12,7 @@ from yarrow_prompt.own import Leave
 from yarrow_prompt.prompt import Prompt
 from yarrow_prompt.script import play
 from yarrow_prompt.session import Session
-from yarrow_prompt.table import GROUPS, ROWS, SENT, TABLE
+from yarrow_prompt.table import ROWS, TABLE, Flag
 from yarrow_tools.screen import columns
 from yarrow_tools.specs import spec_path, tomllib
 
@@ -28,7 +28,7 @@ class Work(unittest.TestCase):
         self.prompt = self.prompt_of(person=True)
 
     def prompt_of(self, person, system="LC"):
-        prompt = Prompt("LC", spec_path("LC"), Session(engine_of(system)), Screen(io.StringIO(), {}), person)
+        prompt = Prompt(["LC"], spec_path("LC"), Session(engine_of(system)), Screen(io.StringIO(), {}), person)
         self.addCleanup(prompt.session.engine.stop)
         return prompt
 
@@ -39,6 +39,9 @@ class Work(unittest.TestCase):
             self.assertTrue(self.prompt.take(line), line)
         self.is_taken = self.prompt.take(lines[-1])
         return self.prompt.screen.out.getvalue().splitlines()
+
+    def kept(self):
+        return self.prompt.session.kept
 
     def written(self, name, text):
         with open(name, "w") as file:
@@ -60,11 +63,11 @@ class Lines(Work):
         wanted = ["  infer a b", "        ^", "  a is no binder and no declaration."]
         self.assertEqual(self.shown("infer a b ! UnknownName 6 a")[:3], ["  infer a b ! UnknownName 6 a", "        ^", wanted[2]])
         self.assertFalse(self.is_taken)
-        self.assertEqual(self.prompt.session.kept, [])
+        self.assertEqual(self.kept(), [])
 
     def test_only_lines_that_change_something_are_kept(self):
         self.shown("assume A : *", "infer A", "show A", "names", "draft", "look", "budget 5", "% nothing", "help", "discard")
-        self.assertEqual(self.prompt.session.kept, ["assume A : *", "look", "budget 5", "discard"])
+        self.assertEqual(self.kept(), ["assume A : *", "look", "budget 5", "discard"])
 
     def test_a_line_that_can_t_be_sent(self):
         self.assertEqual(self.shown("infer " + "a" * 70_000), ["  The line has 70,006 bytes, and at most 65,533 are read."])
@@ -121,9 +124,8 @@ class Scripts(Work):
 
 
 class Own(Work):
-    def test_each_has_its_row_and_each_row_its_group(self):
-        self.assertEqual(set(own.COMMANDS), {it.word for it in ROWS if SENT not in it.flags})
-        self.assertEqual([it.word for it in ROWS if it.group not in GROUPS], [])
+    def test_each_has_its_row(self):
+        self.assertEqual(set(own.COMMANDS), {it.word for it in ROWS if Flag.SENT not in it.flags})
 
     def test_help_fits_the_screen(self):
         for width in (30, 72):
@@ -165,7 +167,7 @@ class Own(Work):
         self.written("b.prove", "assume A : *\n\nfoo\nassume B : *\n")
         self.assertEqual(self.shown("run b.prove")[-1], "  Line 3 of b.prove was not taken; those before it were.")
         self.assertFalse(self.is_taken)
-        self.assertEqual(self.prompt.session.kept, ["assume A : *"])
+        self.assertEqual(self.kept(), ["assume A : *"])
         self.written("c.prove", "run c.prove\n")
         self.assertEqual(self.shown("run c.prove")[:2], ["LC> run c.prove", "  c.prove is being run already."])
         self.assertEqual(self.shown("run none"), ["  none: No such file or directory"])
@@ -199,7 +201,7 @@ class Completed(Work):
         self.prompt.session.names["list.apply"] = "A"
         for before, begun, wanted in [
             ("", "dis", ["discard"]),
-            ("", "s", ["save", "script", "set", "show", "system"]),
+            ("", "s", ["save", "script", "set", "show", "simplify", "system"]),
             ("infer f (", "ap", ["append", "list.apply"]),
             ("infer ", "A", ["A"]),
             ("help ", "tr", ["transcript"]),

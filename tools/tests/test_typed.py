@@ -1,5 +1,6 @@
 import unittest
 
+from yarrow_prompt.table import first_word
 from yarrow_prompt.typed import is_open, read, unsendable, whole_lines
 
 OPEN = [r"infer (", r"infer \x:A.", "infer f (g a", "define a :=", "define a :", "assume a : A ->", "equal a ;", r"infer \ ", "infer let", "infer let x := a : A in", "infer a -> % why"]
@@ -18,6 +19,10 @@ class Typed(unittest.TestCase):
             ("infer x\r", "infer x"),
         ]:
             self.assertEqual(read(text), line)
+
+    def test_a_command_of_the_program_needs_no_blank(self):
+        words = {"exact(x)": "exact", r"  infer\x:A. x": "infer", "exact": "exact", "exact.x": "exact.x", "save(x)": "save(x)", "exacts x": "exacts", "foo(x)": "foo(x)", "": "", "infer'a": "infer"}
+        self.assertEqual({it: first_word(it) for it in words}, words)
 
     def test_which_lines_go_on(self):
         for text in OPEN:

@@ -2,9 +2,11 @@
 
 import glob
 import os
-from typing import TYPE_CHECKING, List, Sequence
+from typing import TYPE_CHECKING, Callable, Dict, List, Sequence
 
-from .table import COMMANDS, FILES, NAMES, SETTINGS, STATES, SWITCHES, TABLE, command_of
+from yarrow_tools.tokens import tokens
+
+from .table import STATES, SWITCHES, TABLE, Offer, command_of
 
 if TYPE_CHECKING:
     from .prompt import Prompt
@@ -22,6 +24,28 @@ def files(begun: str) -> List[str]:
     return [it + "/" if os.path.isdir(it) else it for it in glob.glob(glob.escape(begun) + "*")]
 
 
+def bodies(prompt: "Prompt") -> List[str]:
+    """The names in the goal that have a body."""
+    state = prompt.session.state
+    goal = state.proof.goals[0].statement if state.proof and state.proof.goals else ""
+    return [it.text for it in tokens(goal) if it.kind == "name" and it.text in state.bodies]
+
+
+def modules(prompt: "Prompt") -> List[str]:
+    """The files of the start."""
+    return [*prompt.session.library.modules, *prompt.session.library.certificates]
+
+
+# The words from which those are chosen that fit, where the words before them don't matter.
+POOLS: Dict[Offer, Callable[["Prompt"], Sequence[str]]] = {
+    Offer.NAMES: lambda prompt: prompt.session.state.visible,
+    Offer.BODIES: bodies,
+    Offer.MODULES: modules,
+    Offer.LOADED: lambda prompt: prompt.naming.modules(),
+    Offer.COMMANDS: lambda _: list(TABLE),
+}
+
+
 def settings(before: Sequence[str]) -> Sequence[str]:
     return SWITCHES if len(before) == 1 else STATES
 
@@ -30,16 +54,13 @@ def offers(prompt: "Prompt", before: str, begun: str) -> List[str]:
     """The words that may stand for the one that is begun, after what is before it in the line."""
     words = before.split()
     command = command_of(before)
-    if not words:
-        pool: Sequence[str] = list(TABLE)
-    elif command is None or not command.completes:
+    if words and command is None:
         return []
-    elif command.completes == FILES:
+    offer = command.completes if words and command else Offer.COMMANDS
+    if offer is Offer.FILES:
         return sorted(files(begun))
-    else:
-        pools = {NAMES: lambda: list(prompt.session.names), COMMANDS: lambda: list(TABLE), SETTINGS: lambda: settings(words)}
-        pool = pools[command.completes]()
-    return sorted(it for it in pool if fits(it, begun))
+    pool = settings(words) if offer is Offer.SETTINGS else POOLS.get(offer, lambda _: [])(prompt)
+    return sorted({it for it in pool if fits(it, begun)})
 
 
 def ended(found: List[str]) -> List[str]:

@@ -2,7 +2,7 @@
 
 import os
 import re
-from typing import Dict, List, Mapping, Optional, TextIO, Tuple
+from typing import Callable, Dict, List, Mapping, Optional, TextIO, Tuple
 
 from yarrow_tools.screen import INDENT, columns, marked, width_of
 
@@ -13,6 +13,8 @@ SIGNS: Dict[str, str] = {"->": "→", "\\": "λ", "@": "Π", "#": "□"}
 # Where a term is best folded: after an arrow, a dot or a sign of definition.
 FOLDS = re.compile(r"(?<=->) |(?<=→) |(?<=\.) |(?<=:=) ")
 WORDS = re.compile(" ")
+# What comes after a line of which the rest isn't shown.
+CUT = " .."
 
 
 class NotWritten(BrokenPipeError):
@@ -57,10 +59,12 @@ def folded(head: str, text: str, indent: int, width: int, at: re.Pattern = FOLDS
 
 
 class Screen:
-    """Where lines are written: a terminal, or a stream that isn't one. A transcript gets them without colours."""
+    """Where lines are written: a terminal, or a stream that isn't one. A transcript gets them without colours. `short` makes
+    of a term's text what is shown of its names."""
 
     def __init__(self, out: TextIO, environment: Mapping[str, str] = os.environ):
         self.out = out
+        self.short: Callable[[str], str] = str
         self.terminal = out.isatty()
         self.dumb = environment.get("TERM", "dumb") == "dumb"
         self.colour = self.terminal and not self.dumb and not environment.get("NO_COLOR")
@@ -101,16 +105,30 @@ class Screen:
             self.waiting = False
             self.write("" if self.dumb else "\r\x1b[K")
 
-    def term(self, head: str, text: str, indent: int = 4) -> None:
-        """Shows a term, or a line with terms in it, after its head."""
+    def text(self, head: str, text: str, indent: int = 4, style: str = "") -> None:
+        """Shows a line with terms in it, after its head."""
         size = len(text)
         if size > MOST:
             text = f"{text[:MOST]} .. ({size:,} characters)"
+        for line in folded(head, self.in_signs(text), indent, self.width()):
+            self.put(line, style)
+
+    def term(self, head: str, text: str, indent: int = 4, style: str = "") -> None:
+        """Shows a term, or a line with terms in it, after its head, with names as they may be read."""
+        self.text(head, self.short(text) if len(text) <= MOST else text, indent, style)
+
+    def brief(self, head: str, text: str) -> None:
+        """Shows as much of a term as one line takes."""
+        line = head + self.in_signs(self.short(text[:MOST]))
+        room = self.width()
+        self.put(line if columns(line) <= room else f"{fitting(line, room - len(CUT))}{CUT}", "quiet")
+
+    def in_signs(self, text: str) -> str:
+        """The text with the signs of mathematics, where they are wanted."""
         if self.unicode and self.signs:
             for sign, shown in SIGNS.items():
                 text = text.replace(sign, shown)
-        for line in folded(head, text, indent, self.width()):
-            self.put(line)
+        return text
 
     def say(self, *sentences: str, head: str = INDENT) -> None:
         """Shows sentences, each from a new line on, a little to the right."""

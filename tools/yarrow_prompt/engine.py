@@ -30,10 +30,10 @@ class Ended(Exception):
 
 
 class Engine:
-    """A child that runs in a session of its own, so that Ctrl-C reaches the prompt alone."""
+    """A child that runs in a session of its own, so that Ctrl-C reaches the prompt alone; in a folder, where one is named."""
 
-    def __init__(self, words: Sequence[str]):
-        self.words = list(words)
+    def __init__(self, words: Sequence[str], folder: str = ""):
+        self.words, self.folder = list(words), folder or None
         # (what is called while a round takes long)
         self.waiting: Optional[Callable[[], None]] = None
         self.child: Optional[subprocess.Popen] = None
@@ -43,7 +43,13 @@ class Engine:
         self.unread = b""
         try:
             self.child = subprocess.Popen(
-                self.words, stdin=subprocess.PIPE, stdout=subprocess.PIPE, bufsize=0, start_new_session=True, preexec_fn=limited
+                self.words,
+                cwd=self.folder,
+                stdin=subprocess.PIPE,
+                stdout=subprocess.PIPE,
+                bufsize=0,
+                start_new_session=True,
+                preexec_fn=limited,
             )
         except (OSError, subprocess.SubprocessError) as fault:
             raise Ended(NOT_STARTED, [str(fault)]) from fault

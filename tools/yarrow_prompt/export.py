@@ -1,12 +1,13 @@
-"""`export M`: what was declared, as a module that `batch` reads."""
+"""`export M`: what was declared here, as a module that `batch` reads."""
 
-from typing import TYPE_CHECKING, List, Optional, Sequence
+from typing import TYPE_CHECKING, Iterator, List, Optional, Sequence
 
 from yarrow_tools.source import MODULE
-from yarrow_tools.terms import Parser
 from yarrow_tools.tokens import KEYWORDS, identifier_end, tokens
 
-from .table import TABLE
+from .parts import defined
+from .proving import usage
+from .replies import counted
 
 if TYPE_CHECKING:
     from .prompt import Prompt
@@ -25,37 +26,63 @@ def unfit(name: str) -> Optional[str]:
 
 def declaration(name: str, shown: str) -> str:
     """The line of a module that declares what `show` replied of a name: `NAME : TYPE`, or `NAME := BODY : TYPE`."""
-    if not shown.startswith(f"{name} := "):
-        return f"assume {shown}"
-    parser = Parser(tokens(shown), 2)
-    body = parser.term()
-    return f"define {name} : {shown[parser.take(':').end:].strip()} := {shown[body.start : body.end]}"
+    found = defined(name, shown)
+    return f"define {name} : {found.type} := {found.term}" if found else f"assume {shown}"
 
 
-def module_text(module: str, lines: Sequence[str]) -> str:
-    return "".join(f"{it}\n" for it in ["yarrow-module 1", f"module {module}", *lines, "end"])
+def mentioned(lines: Sequence[str]) -> Iterator[str]:
+    """The names that the lines have."""
+    return (it.text for line in lines for it in tokens(line) if it.kind == "name")
 
 
-def export(prompt: "Prompt", rest: str) -> None:
-    module = rest[: -len(MODULE)] if rest.endswith(MODULE) else rest
-    why = unfit(module)
-    if not rest:
-        prompt.refuse(f"The form of the line is: {TABLE['export'].form}")
-    if why:
-        prompt.refuse(f"{module} can't be the name of a module: {why}.")
-    names = list(prompt.session.names)
+def module_text(module: str, uses: Sequence[str], lines: Sequence[str]) -> str:
+    heads = [f"uses {it}" for it in uses]
+    return "".join(f"{it}\n" for it in ["yarrow-module 1", f"module {module}", *heads, *lines, "end"])
+
+
+def used_by(prompt: "Prompt", lines: Sequence[str]) -> List[str]:
+    """The modules that these lines use, of which each must be a file."""
+    session = prompt.session
+    foreign = set(session.names).difference(session.state.here)
+    used: List[str] = []
+    for name in mentioned(lines):
+        module, dot, _ = name.partition(".")
+        if dot and module not in session.library.modules:
+            prompt.refuse(f"{name} is of an instance, which a module can't use.")
+        if not dot and name in foreign:
+            prompt.refuse(f"{name} is of a certificate, which a module can't use.")
+        if dot and module not in used:
+            used.append(module)
+    return [it for it in session.library.in_order() if it in used]
+
+
+def declared_here(prompt: "Prompt") -> List[str]:
+    """The lines of a module that declare what was declared here."""
+    names = prompt.session.state.here
     for name in names:
         why = unfit(name)
         if why:
             prompt.refuse(f"{name} can't be the name of a declaration in a module: {why}.")
-    lines: List[str] = [declaration(name, shown) for name, shown in zip(names, prompt.ask([f"show {it}" for it in names]))] if names else []
+    shown = prompt.ask([f"show {it}" for it in names]).replies if names else []
+    return [declaration(name, it) for name, it in zip(names, shown)]
+
+
+def export(prompt: "Prompt", rest: str) -> None:
+    module = rest[: -len(MODULE)] if rest.endswith(MODULE) else rest
+    if not rest:
+        usage(prompt, "export")
+    why = unfit(module)
+    if why:
+        prompt.refuse(f"{module} can't be the name of a module: {why}.")
+    lines = declared_here(prompt)
+    uses = used_by(prompt, lines)
     path = module + MODULE
     try:
         with open(path, "x", encoding="utf-8") as file:
-            file.write(module_text(module, lines))
+            file.write(module_text(module, uses, lines))
     except FileExistsError:
         prompt.refuse(f"{path} is there already. Take another name.")
     except OSError as fault:
         prompt.refuse(f"{path}: {fault.strerror}")
-    count = len(lines)
-    prompt.screen.tell(f"{path} has {count:,} declaration{'s' * (count != 1)}. This checks it: bin/yarrow batch {prompt.spec} {module}")
+    checked = " ".join(["bin/yarrow batch", prompt.spec, *prompt.session.library.in_order(uses), module])
+    prompt.screen.tell(f"{path} has {counted(len(lines), 'declaration')}. This checks it: {checked}")

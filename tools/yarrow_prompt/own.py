@@ -1,31 +1,31 @@
 """The commands that the prompt does itself. What the table says of them is what they do."""
 
-import os
 import re
-import stat
-from typing import TYPE_CHECKING, Callable, Dict, List
+from typing import TYPE_CHECKING, Callable, Dict, List, Optional, Sequence
 
 from yarrow_tools.listing import written
 from yarrow_tools.specs import read_system, tomllib
 
-from . import export
+from . import export, saving
 from .drawing import WORDS, folded
-from .table import GROUPS, STATES, SWITCHES, TABLE, Command, of_group
-from .typed import whole_lines
+from .outline import Outline
+from .parts import defined, judged
+from .proving import PROVING, alone, usage
+from .session import is_refused
+from .table import STATES, SWITCHES, TABLE, Command, Flag, Group, is_unbuilt, of_group
+from .typed import unsendable
 
 if TYPE_CHECKING:
     from .prompt import Prompt
 
-# The first words of a file of saved lines; only such a file is written over.
-SAVED = "% yarrow prove "
 NARROW = 60
 FORM = 27
 # The forms of terms, as rows of `help`.
 LANGUAGE = [
-    Command("", ("\\x:A. b",), "The function that takes x, of type A, to b.", ""),
-    Command("", ("@x:A. B", "A -> B"), "The type of functions from A to B, in which x may occur.", ""),
-    Command("", ("f a",), "f applied to a. In f (g a) the argument needs parentheses.", ""),
-    Command("", ("let x := d : A in b",), "b, in which x is d.", ""),
+    Command("", ("\\x:A. b",), "The function that takes x, of type A, to b."),
+    Command("", ("@x:A. B", "A -> B"), "The type of functions from A to B, in which x may occur."),
+    Command("", ("f a",), "f applied to a. In f (g a) the argument needs parentheses."),
+    Command("", ("let x := d : A in b",), "b, in which x is d."),
 ]
 
 
@@ -33,20 +33,18 @@ class Leave(Exception):
     """The person wants to leave."""
 
 
-def usage(prompt: "Prompt", word: str) -> None:
-    prompt.refuse(f"The form of the line is: {TABLE[word].form}")
-
-
-def help_of(prompt: "Prompt", command: Command) -> None:
-    """A command's forms with its sentence after the first of them, or below where the screen is narrow."""
+def help_of(prompt: "Prompt", command: Command, is_marked: bool = True) -> None:
+    """A command's forms with its sentence after the first of them, or below where the screen is narrow. One that isn't built yet is
+    marked so."""
     screen, width = prompt.screen, prompt.screen.width()
+    sentence = command.sentence + (" Not built yet." if is_marked and Flag.UNBUILT in command.flags else "")
     if width < NARROW:
         for form in command.forms:
-            screen.term("  ", form, 4)
-        for line in folded("    ", command.sentence, 4, width, WORDS):
+            screen.text("  ", form, 4)
+        for line in folded("    ", sentence, 4, width, WORDS):
             screen.put(line)
         return
-    first, *rest = folded("", command.sentence, 0, width - FORM - 2, WORDS)
+    first, *rest = folded("", sentence, 0, width - FORM - 2, WORDS)
     forms = list(command.forms)
     for place in range(max(len(forms), 1 + len(rest))):
         form = forms[place] if place < len(forms) else ""
@@ -64,10 +62,10 @@ def help_(prompt: "Prompt", rest: str) -> None:
             prompt.refuse(f"There is no command {rest}.")
         help_of(prompt, TABLE[rest])
         return
-    for group in GROUPS:
-        prompt.screen.put(group, "head")
+    for group in Group:
+        prompt.screen.put(group.value + (" (not built yet)" if is_unbuilt(group) else ""), "head")
         for command in of_group(group):
-            help_of(prompt, command)
+            help_of(prompt, command, not is_unbuilt(group))
     prompt.screen.put("terms", "head")
     for term in LANGUAGE:
         help_of(prompt, term)
@@ -75,83 +73,60 @@ def help_(prompt: "Prompt", rest: str) -> None:
 
 def names(prompt: "Prompt", rest: str) -> None:
     word = re.compile(rf"(?<!\w){re.escape(rest)}(?!\w)")
-    found = [(name, type_) for name, type_ in prompt.session.names.items() if not rest or word.search(f"{name} : {type_}")]
-    for name, type_ in found:
-        prompt.screen.term(f"{name} : ", type_)
+    lines = (f"{name} : {type_}" for name, type_ in prompt.guarded(prompt.session.typed_names).items())
+    found = [it for it in lines if rest in it and (not rest or word.search(it))]
+    for line in found:
+        prompt.screen.term("", line)
     if not found:
         prompt.screen.say(f"No name or type has {rest} in it." if rest else "Nothing is declared yet.")
 
 
+def listing(prompt: "Prompt", rest: str) -> None:
+    """The body of a declaration, as a proof."""
+    if not rest:
+        usage(prompt, "listing")
+    line = prompt.naming.long(f"show {rest}")
+    shown = prompt.give(line)[0]
+    name = line.partition(" ")[2].strip()
+    if not shown.startswith(f"{name} := "):
+        prompt.refuse(f"{rest} has no body: it is an assumption or a hypothesis.")
+    found = defined(name, shown)
+    if found is None:
+        prompt.refuse(f"The body of {rest} is nested too deep.")
+    outline = Outline(found.term)
+
+    def infer(lines: Sequence[str]) -> List[Optional[str]]:
+        if any(map(unsendable, lines)):
+            prompt.refuse("The proof has parts that are too long for a line.")
+        return [None if is_refused([it]) else judged_type(it) for it in prompt.ask(lines).replies]
+
+    outline.ask(infer)
+    for head, text in outline.lines(prompt.naming.short):
+        prompt.screen.text(head, text, len(head) + 4)
+    prompt.screen.term("     ", found.type, 8)
+
+
+def judged_type(reply: str) -> Optional[str]:
+    found = judged(reply)
+    return found.type if found else None
+
+
+def open_(prompt: "Prompt", rest: str) -> None:
+    modules = prompt.naming.modules()
+    for module in rest.split():
+        if module not in modules:
+            prompt.refuse(f"No module {module} is loaded.")
+    prompt.naming.opened = tuple(rest.split())
+
+
 def system(prompt: "Prompt", rest: str) -> None:
-    if rest:
-        usage(prompt, "system")
+    alone(prompt, "system", rest)
     found = read_system(prompt.path)
     if found is None:
         prompt.refuse("The file of the system can't be read." if tomllib else "The files of systems are read by Python 3.11 or later.")
     axioms = ", ".join(" : ".join(it) for it in found.axioms) or "none"
     for head, text in (("sorts   ", " ".join(found.sorts)), ("axioms  ", axioms), ("rules   ", written(found.rules))):
-        prompt.screen.term(head, text, len(head))
-
-
-def script(prompt: "Prompt", rest: str) -> None:
-    if rest:
-        usage(prompt, "script")
-    for line in prompt.session.kept:
-        prompt.screen.term("  ", line, 6)
-    if not prompt.session.kept:
-        prompt.screen.say("No line yet changed anything.")
-
-
-def is_free(path: str) -> bool:
-    """Whether lines may be saved to this path: nothing is there, or lines that were saved before, or no file at all."""
-    try:
-        if not stat.S_ISREG(os.stat(path).st_mode):
-            return True
-        with open(path, "rb") as file:
-            return file.read(len(SAVED)) in (b"", SAVED.encode())
-    except FileNotFoundError:
-        return True
-
-
-def saved_text(prompt: "Prompt") -> str:
-    """What is saved: a comment with the words of the start, and the lines."""
-    return "".join(f"{it}\n" for it in [SAVED + prompt.spec, *prompt.session.kept])
-
-
-def save(prompt: "Prompt", rest: str) -> None:
-    if not rest:
-        usage(prompt, "save")
-    try:
-        if not is_free(rest):
-            prompt.refuse(f"{rest} is there already, and has other things than saved lines.")
-        with open(rest, "w", encoding="utf-8") as file:
-            file.write(saved_text(prompt))
-    except OSError as fault:
-        prompt.refuse(f"{rest}: {fault.strerror}")
-    prompt.session.saved = True
-    count = len(prompt.session.kept)
-    prompt.screen.tell(f"saved {count:,} line{'s' * (count != 1)} to {rest}")
-
-
-def run(prompt: "Prompt", rest: str) -> None:
-    if not rest:
-        usage(prompt, "run")
-    path = os.path.realpath(rest)
-    if path in prompt.running:
-        prompt.refuse(f"{rest} is being run already.")
-    try:
-        with open(rest, encoding="utf-8", errors="surrogateescape") as file:
-            lines: List[str] = file.read().split("\n")
-    except OSError as fault:
-        prompt.refuse(f"{rest}: {fault.strerror}")
-    prompt.running.append(path)
-    try:
-        for number, line in whole_lines(lines):
-            prompt.echo(line)
-            if not prompt.take(line):
-                prompt.refuse(f"Line {number} of {rest} was not taken; those before it were.")
-    finally:
-        prompt.running.pop()
+        prompt.screen.text(head, text, len(head))
 
 
 def transcript(prompt: "Prompt", rest: str) -> None:
@@ -177,18 +152,20 @@ def set_(prompt: "Prompt", rest: str) -> None:
 
 
 def quit_(prompt: "Prompt", rest: str) -> None:
-    if rest:
-        usage(prompt, "quit")
+    alone(prompt, "quit", rest)
     raise Leave
 
 
 COMMANDS: Dict[str, Callable[["Prompt", str], None]] = {
+    **PROVING,
     "help": help_,
     "names": names,
+    "listing": listing,
+    "open": open_,
     "system": system,
-    "script": script,
-    "save": save,
-    "run": run,
+    "script": saving.script,
+    "save": saving.save,
+    "run": saving.run,
     "export": export.export,
     "transcript": transcript,
     "set": set_,

@@ -11,7 +11,7 @@ REFUSED = 1
 
 
 def play(prompt: Prompt, lines: Iterable[str]) -> int:
-    """Takes the lines of a script. The status is 1 where one was refused."""
+    """Takes the lines of a script. The status is 1 where one was refused, or a proof is open at the end."""
     for number, line in whole_lines(lines):
         prompt.echo(line)
         try:
@@ -23,4 +23,7 @@ def play(prompt: Prompt, lines: Iterable[str]) -> int:
             raise
         except Leave:
             break
+    if prompt.session.proof:
+        prompt.screen.put(f"the proof of {prompt.session.proof.theorem} is open at the end")
+        return REFUSED
     return 0

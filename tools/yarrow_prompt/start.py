@@ -1,5 +1,6 @@
-"""`prove SPEC`: starts the program, and takes lines from a terminal or from a script."""
+"""`prove SPEC [FILE..]`: starts the program, and takes lines from a terminal or from a script."""
 
+import os
 import sys
 from typing import Sequence
 
@@ -9,40 +10,51 @@ from yarrow_tools.specs import spec_path
 
 from .drawing import Screen
 from .engine import Ended, Engine
-from .interrupts import leave_at_hangup
+from .library import Library, library_of
 from .prompt import Prompt
 from .script import play
 from .session import Session
 from .terminal import at_terminal
 
+USAGE = 2
 NO_SYSTEM = 3
 
 
-def begun(session: Session, screen: Screen, spec: str) -> int:
-    """Starts the program. The status is 0, or that of the program where it ended at once, whose line is shown."""
+def begun(prompt: Prompt) -> int:
+    """Starts the program. The status is 0, or that of the program where it ended at once, whose line is shown; `usage` is that of any
+    command."""
     try:
-        session.ask([])
+        prompt.session.ask([])
     except Ended as end:
-        for line in end.printed:
-            screen.put(line)
+        for line in end.printed * (end.status != USAGE):
+            prompt.screen.put(line)
         if end.status == NO_SYSTEM and end.printed:
-            print(of_the_spec(spec, end.printed[-1]), file=sys.stderr)
+            print(of_the_spec(prompt.spec, end.printed[-1]), file=sys.stderr)
+        if end.status == USAGE and prompt.session.library.names:
+            print(f"bin/yarrow: sessions with modules are not built yet; this is one without: bin/yarrow prove {prompt.spec}", file=sys.stderr)
         return end.status
     return 0
 
 
-def run(words: Sequence[str]) -> int:
-    if len(words) != 1 or not words[0]:
-        return 2
-    sys.stdout.reconfigure(errors="backslashreplace")  # type: ignore[union-attr]
+def prompt_of(words: Sequence[str], library: Library) -> Prompt:
+    """The prompt for the system of the first word, with the files of the others."""
     screen = Screen(sys.stdout)
     path = spec_path(words[0])
-    engine = Engine([program(), "replay", path])
-    prompt = Prompt(words[0], path, Session(engine), screen, sys.stdin.isatty())
+    engine = Engine([program(), "replay", os.path.abspath(path) if library.folder else path, *library.names], library.folder)
+    prompt = Prompt(words, path, Session(engine, library), screen, sys.stdin.isatty())
     engine.waiting = lambda: screen.wait(prompt.interrupts.is_heard)
-    leave_at_hangup()
+    return prompt
+
+
+def run(words: Sequence[str]) -> int:
+    library = library_of(words[1:])
+    if not all(words) or not words or library is None:
+        return USAGE
+    sys.stdout.reconfigure(errors="backslashreplace")  # type: ignore[union-attr]
+    prompt = prompt_of(words, library)
+    prompt.interrupts.leave_at_hangup()
     try:
-        status = begun(prompt.session, screen, words[0])
+        status = begun(prompt)
         if status:
             return status
         if prompt.person:
@@ -52,4 +64,4 @@ def run(words: Sequence[str]) -> int:
     except Ended as end:
         return end.status
     finally:
-        engine.stop()
+        prompt.session.engine.stop()

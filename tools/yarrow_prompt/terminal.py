@@ -5,8 +5,9 @@ import sys
 from typing import List, Optional
 
 from . import completion
-from .own import Leave, saved_text
+from .own import Leave
 from .prompt import Prompt
+from .saving import saved_text
 from .typed import is_open, whole_lines
 
 try:
@@ -104,10 +105,12 @@ class Terminal:
 
     def may_leave(self) -> bool:
         """Whether nothing would be lost, or the person knows that it is."""
-        if self.is_warned or not self.prompt.session.has_work:
+        session = self.prompt.session
+        if self.is_warned or not session.has_work:
             return True
         self.is_warned = True
-        self.prompt.screen.tell("The lines are not saved: save FILE keeps them. Ctrl-D once more leaves.")
+        still = f"The proof of {session.proof.theorem} is open, and the lines" if session.proof else "The lines"
+        self.prompt.screen.tell(f"{still} are not saved: save FILE keeps them. Ctrl-D once more leaves.")
         return False
 
     def talk(self) -> None:
@@ -143,6 +146,18 @@ class Terminal:
             pass
 
 
+def load_all(prompt: Prompt) -> None:
+    """Loads the modules of the start that have no parameters, each after those that it uses, up to one that is not taken."""
+    library = prompt.session.library
+    for module in library.in_order():
+        if library.has_parameters(module):
+            prompt.screen.tell(f"{module} has parameters: instance {module} L TERM ; TERM takes it in, with a label L.")
+            continue
+        prompt.echo(f"load {module}")
+        if not prompt.take(f"load {module}"):
+            break
+
+
 def at_terminal(prompt: Prompt) -> int:
     terminal = Terminal(prompt)
     sys.stdin.reconfigure(errors="surrogateescape")  # type: ignore[union-attr]
@@ -150,7 +165,12 @@ def at_terminal(prompt: Prompt) -> int:
     prompt.interrupts.install()
     prompt.screen.tell(f"Yarrow, in the system {prompt.system}. The command help lists all, Ctrl-D leaves.")
     try:
-        terminal.talk()
+        try:
+            load_all(prompt)
+            terminal.talk()
+        finally:
+            # (a hangup that comes before this is done ends the inner part alone)
+            prompt.interrupts.end()
     finally:
         terminal.history.store()
         terminal.keep_last()

@@ -5,7 +5,7 @@ from typing import Iterable, Iterator, List, Optional, Tuple
 from yarrow_tools.join import with_signs
 from yarrow_tools.tokens import BLANKS, Token, tokens
 
-from .table import SENT, TERMS, command_of
+from .table import Flag, command_of
 
 # A line whose last token is one of these can't be whole.
 GOES_ON = ("->", ":=", ":", ";", "\\", "@", "let", "in")
@@ -15,7 +15,7 @@ LONGEST = 65_536
 def is_own(text: str) -> bool:
     """Whether the line is one of the prompt alone, whose words may be names of files."""
     command = command_of(text)
-    return command is not None and SENT not in command.flags
+    return command is not None and Flag.SENT not in command.flags
 
 
 def read(text: str) -> str:
@@ -30,7 +30,7 @@ def is_open(text: str) -> bool:
     """Whether the line can't be whole yet. One that has no command, or a sign that begins no token, is taken for whole."""
     line = read(text)
     command, found = command_of(line), tokens(line)
-    if command is None or TERMS not in command.flags or any(it.kind == "bad" for it in found):
+    if command is None or Flag.TERMS not in command.flags or any(it.kind == "bad" for it in found):
         return False
     depth = count(found, "(") - count(found, ")")
     if found[-1].kind == ".":

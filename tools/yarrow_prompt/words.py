@@ -1,18 +1,17 @@
 """Each refusal of a session's line in sentences, with the stretch of the line that they speak of."""
 
 import difflib
-from typing import Callable, List, NamedTuple, Optional, Sequence, Tuple
+from typing import Dict, Optional, Tuple
 
 from yarrow_tools import reading
-from yarrow_tools.beta import without_redexes
-from yarrow_tools.flaws import Names, Said, bound_in, defined_in, flaw_sentences, parts_that_differ, role, stem, stretch, under_binders
 from yarrow_tools.refusal import Refusal, refusal_of_line
-from yarrow_tools.specs import systems_with
 from yarrow_tools.statements import Language
-from yarrow_tools.terms import Parser, Tree, statement
 from yarrow_tools.tokens import tokens
 
-from .table import ROWS, TABLE, first_word
+from .around import Around, Explained
+from .loading import OF_A_MODULE
+from .stepping import OF_A_STEP, of_a_flaw
+from .table import ROWS, TABLE, Command, Flag, Group, first_word, has
 
 SESSION = Language({it.word: it.form for it in ROWS})
 # The refusals that have a place, and those that have another word after it.
@@ -27,13 +26,32 @@ OTHERS = {
     **dict.fromkeys(("axiom", "parameter", "postulate", "variable", "hypothesis", "constant"), "assume"),
     **dict.fromkeys(("search", "locate"), "names"),
     **dict.fromkeys(("exit", "bye", "q"), "quit"),
+    **dict.fromkeys(("lemma", "corollary", "proposition", "fact"), "theorem"),
+    **dict.fromkeys(("have", "assert"), "cut"),
+    **dict.fromkeys(("change", "replace"), "convert"),
+    **dict.fromkeys(("simpl", "cbn", "cbv"), "beta"),
+    **dict.fromkeys(("require", "import", "uses"), "load"),
+    **dict.fromkeys(("sorry", "admitted"), "admit"),
+    **dict.fromkeys(("done", "defined"), "qed"),
+    "refine": "apply",
+    "delta": "unfold",
+    "restart": "back",
 }
-# Words with which a proof goes on elsewhere.
-PROOFS = ("theorem", "lemma", "intro", "intros", "exact", "apply", "cut", "unfold", "convert", "goals", "qed", "abort", "have", "assert")
-BY_A_TERM = "A proof is a term here: define X : TERM := TERM."
+# What to do instead, as long as the program doesn't take the lines of a command or of its group.
+UNTIL_BUILT: Dict[object, str] = {
+    Group.PROVE: "A proof is a term here: define X : TERM := TERM.",
+    Group.LIBRARY: "A module is checked by: bin/yarrow batch SPEC MODULE",
+    "undo": "The command back takes lines back.",
+    "rename": "The command back takes lines back, which may then be given with another name.",
+}
 OF_THE_LINE = {
-    "NotBuilt": "Lines of this kind are not built yet.",
     "NothingToCommit": "The draft is empty.",
+    "NothingToUndo": "There is nothing that undo takes back. The command back takes a commit back, too.",
+    "ProofOpen": "A proof is open: qed ends it, and abort gives it up.",
+    "NoProof": "No proof is open. One begins with: theorem X : TERM",
+    "NoGoal": "No goal is left: qed ends the proof.",
+    "DraftOpen": "The draft has declarations: commit makes them part of the context, and discard drops them.",
+    "OtherSystem": "The certificate is of another system.",
     "Spent": "The budget of the line is used up. More is given by budget N, up to 10000000.",
     "Deep": "A term on the way is deeper than 2,000 or larger than 1,000,000, or inference or a comparison nests too deep.",
     "ContextFull": "With the draft the context would have more than 200,000 entries.",
@@ -41,52 +59,54 @@ OF_THE_LINE = {
 OF_A_NAME = {
     "Taken": "{0} is declared already. Take another name.",
     "Clash": "{0} was committed by another session. Declare it under another name.",
+    "NoBody": "{0} has no body: it is an assumption or a hypothesis.",
+    "NotThere": "{0} does not occur in the goal.",
+    "GoalsLeft": "There are goals left ({0}). The command goals shows them.",
+    "NoModule": "{0} is none of the modules that were named at the start.",
+    "NoCertificate": "{0}.cert is none of the certificates that were named at the start.",
+    "NotLoaded": "It uses the module {0}, which is not loaded: load {0}",
+    "Loaded": "There is a module with the label {0} already.",
+    "Reserved": "{0} is the name of a module, and can't be the label of an instance.",
+    "WrongCount": "Parameters of the module: {0}. Terms that are given: {1}.",
+    "Dotted": "The certificate declares {0}, and a name of several parts can't be taken in.",
 }
-
-# Asks the program one line; what it replies, or nothing where it refuses.
-Ask = Callable[[str], Optional[str]]
+OF_A_LABEL = ("Loaded", "Reserved")
 
 
-class Explained(NamedTuple):
-    """Sentences on a refused line, and the stretch of it that they speak of, where there is one."""
-
-    stretch: Optional[Tuple[int, int]]
-    sentences: Tuple[str, ...]
-
-
-def term_of(line: str, part: str) -> Optional[Tree]:
-    """The term of a line that the program calls by this word, `type` or `term`."""
-    stated = statement(line)
-    if stated:
-        return stated.part(part)
-    return Parser(tokens(line), 1).term_or_none()
+def unbuilt(command: Command) -> Tuple[str, ...]:
+    """Of a command whose lines the program doesn't take yet."""
+    said = f"The command {command.word} is not built yet: the program refuses it."
+    instead = UNTIL_BUILT.get(command.word) or UNTIL_BUILT.get(command.group)
+    return (said, instead) if instead else (said,)
 
 
 def no_command(word: str) -> Tuple[str, ...]:
     """Of a line whose first word is no command."""
     small = word.lower().rstrip(".:")
-    if small in PROOFS:
-        return (f"There is no command {word} yet. {BY_A_TERM}",)
     if small in OTHERS:
         other = TABLE[OTHERS[small]]
-        return (f"There is no command {word}. Here it is {other.word}: {other.form}",)
+        said = f"There is no command {word}. Here it is {other.word}: {other.form}"
+        return (said, *unbuilt(other)) if Flag.UNBUILT in other.flags else (said,)
     near = [small] if small in TABLE else difflib.get_close_matches(small, list(TABLE), 2, 0.6)
     hint = f" Near to it: {', '.join(near)}." if near else " The command help lists them."
     return (f"There is no command {word}.{hint}",)
 
 
-def unknown_name(name: str, known: Sequence[str]) -> str:
+def unknown_name(name: str, around: Around) -> str:
     """Of a name that nothing has."""
     if name in reading.TYPES:
         return f"{name} is no sort here: the sort of types is *. The command system shows all sorts."
     if name in reading.HABITS:
         return reading.HABITS[name]
-    near = reading.near_names(name, known)
-    said = f"{name} is no binder and no declaration."
+    module, dot, _ = name.partition(".")
+    if dot and module in around.library.modules and not any(it.startswith(f"{module}.") for it in around.known):
+        return f"{name} is of the module {module}, which is not loaded: load {module}"
+    near = reading.near_names(name, around.known)
+    said = f"{name} is no binder{', no hypothesis' if around.goal else ''} and no declaration."
     return f"{said} Near to it: {', '.join(near)}." if near else said
 
 
-def of_reading(line: str, refused: Refusal, known: Sequence[str]) -> Explained:
+def of_reading(line: str, refused: Refusal, around: Around) -> Explained:
     """Of a refusal of tokens, grammar or names, which has a place in bytes."""
     word = first_word(line)
     place = reading.place_in(line, refused.place)
@@ -94,11 +114,11 @@ def of_reading(line: str, refused: Refusal, known: Sequence[str]) -> Explained:
     if refused.kind == "Expected" and refused.words[1] == "Command":
         return Explained((0, max(1, len(word))), no_command(word))
     if refused.kind == "UnknownName":
-        return Explained(found, (unknown_name(refused.words[1], known),))
+        return Explained(found, (unknown_name(refused.words[1], around),))
     if refused.kind == "UnknownSort":
         return Explained(found, (f"The system has no sort {refused.words[1]}. The command system shows all sorts.",))
     if refused.kind == "Expected":
-        note = reading.expected(line, place, refused.words[1], known, SESSION)
+        note = reading.expected(line, place, refused.words[1], around.known, SESSION)
         found, said = (note.start, note.end), note.sentences
     elif refused.kind == "BadChar":
         said = (reading.bad_char(line, place, SESSION),)
@@ -106,53 +126,13 @@ def of_reading(line: str, refused: Refusal, known: Sequence[str]) -> Explained:
         said = ("This name has more than 128 bytes.",)
     else:
         said = ("The term is nested deeper than 2,000." if place >= len(line) else "2,000 parentheses are open here already.",)
-    if word not in TABLE and word not in PROOFS:
-        said = no_command(word) + said
-    return Explained(found, said)
+    return Explained(found, said if word in TABLE else no_command(word) + said)
 
 
-def names_in_session(term: Optional[Tree], known: Sequence[str], ask: Ask) -> Names:
-    """The names of a session, for a flaw of this term: what takes no step is a binder's name, and that of an assumption."""
-    bound = bound_in(term) - defined_in(term)
-
-    def is_fixed(name: str) -> bool:
-        if name not in known:
-            return stem(name) in bound
-        shown = ask(f"show {name}")
-        return shown is not None and " := " not in shown
-
-    return Names(str, is_fixed)
-
-
-def computed(refused: Refusal, names: Names, ask: Ask) -> Tuple[str, ...]:
-    """What two types that aren't convertible come to, where it can't be seen where they differ."""
-    path, _, types = refused.values.partition(" ")
-    have, _, want = types.partition(" ; ")
-    found = under_binders(have, want, path)
-    is_seen = found.under or path == "-" or parts_that_differ(have, want, path, names)
-    if is_seen or (without_redexes(have), without_redexes(want)) != (have, want):
-        return ()
-    reduced = [ask(f"reduce {it}") for it in (have, want)]
-    if None in reduced or reduced == [have, want]:
-        return ()
-    return (f"Computed: {reduced[0]}", f"against: {reduced[1]}")
-
-
-def of_a_flaw(line: str, refused: Refusal, known: Sequence[str], ask: Ask) -> Explained:
-    """Of a flaw, which has a part of the line and a path in it."""
-    term = term_of(line, refused.part)
-    found = stretch(term, refused.path)
-    what = "This" if found else f"The part {refused.path} of the {refused.part}"
-    names = names_in_session(term, known, ask)
-    said = flaw_sentences(Said(what, refused.kind, refused.values, role(term, refused.path)), names, systems_with)
-    if refused.kind == "NotConvertible":
-        said += computed(refused, names, ask)
-    return Explained(found or stretch(term, "-"), said)
-
-
-def name_in(line: str, name: str) -> Optional[Tuple[int, int]]:
-    """Where a name is in a line, after its first word."""
-    return next(((it.start, it.end) for it in tokens(line)[1:] if it.text == name), None)
+def name_in(line: str, refused: Refusal) -> Optional[Tuple[int, int]]:
+    """Where the name of a refusal is in a line, after its first word; that of a label in `instance M L`, after M."""
+    start = 2 if refused.kind in OF_A_LABEL and first_word(line) == "instance" else 1
+    return next(((it.start, it.end) for it in tokens(line)[start:] if it.text == refused.words[0]), None)
 
 
 def has_place(refused: Refusal) -> bool:
@@ -161,16 +141,20 @@ def has_place(refused: Refusal) -> bool:
     return (refused.kind in PLACED and count == 1 or refused.kind in PLACED_WITH and count == 2) and refused.words[0].isdigit()
 
 
-def explained(line: str, said: str, known: Sequence[str], ask: Ask) -> Explained:
+def explained(line: str, said: str, around: Around) -> Explained:
     """What is said of a line that the program refused with these words."""
     refused = refusal_of_line(said)
     if has_place(refused):
-        return of_reading(line, refused, known)
+        return of_reading(line, refused, around)
     if refused.part:
-        return of_a_flaw(line, refused, known, ask)
+        return of_a_flaw(line, refused, around)
+    explainers = OF_A_STEP if has(line, Flag.GOALS) else OF_A_MODULE if has(line, Flag.EVENT) else {}
+    if refused.kind in explainers:
+        return explainers[refused.kind](line, refused, around)
     if refused.kind in OF_A_NAME and refused.words:
-        return Explained(name_in(line, refused.words[0]), (OF_A_NAME[refused.kind].format(*refused.words),))
-    sentences: List[str] = [OF_THE_LINE.get(refused.kind, f"refused {said}")]
-    if refused.kind == "NotBuilt" and first_word(line) in PROOFS:
-        sentences.append(BY_A_TERM)
-    return Explained((0, len(first_word(line))) if refused.kind == "NotBuilt" else None, tuple(sentences))
+        words = (*refused.words, "")
+        return Explained(name_in(line, refused), (OF_A_NAME[refused.kind].format(*map(around.short, words)),))
+    if refused.kind == "NotBuilt":
+        word = first_word(line)
+        return Explained((0, len(word)), unbuilt(TABLE[word]) if word in TABLE else (f"refused {said}",))
+    return Explained(None, (OF_THE_LINE.get(refused.kind, f"refused {said}"),))

@@ -45,6 +45,8 @@ HABITS = {**AS_SIGN, "fun": "Write \\x:A. b.", "forall": "Write @x:A. B."}
 TYPES = ("Prop", "Set", "Type")
 # So many names are looked at more closely, and so many closely, which takes long.
 POSSIBLE, LIKELY = 500, 50
+# In so many steps the start and the end of a name are made shorter until other names have them, too.
+STEPS = 12
 
 
 def token_from(found: Sequence[Token], place: int) -> Optional[Token]:
@@ -145,12 +147,27 @@ def likeness(one: str, other: str) -> int:
     return 2 * shared - max(len(one), len(other))
 
 
+def sharing(name: str, known: Sequence[str]) -> Sequence[str]:
+    """The names that share as long a start with this one as any does, or as long an end; those of the two that are fewer, where there
+    are many. In one text of all names these are found without a look at each."""
+    text = "\n".join(("", *known, ""))
+    sizes = range(len(name), 0, -max(1, len(name) // STEPS))
+    start = next((name[:it] for it in sizes if "\n" + name[:it] in text), "\n")
+    end = next((name[-it:] for it in sizes if name[-it:] + "\n" in text), "\n")
+    begun, ended = text.count("\n" + start), text.count(end + "\n")
+    starts = [it for it in known if it.startswith(start)] if begun <= max(ended, POSSIBLE) or not ended else []
+    ends = [it for it in known if it.endswith(end)] if ended <= max(begun, POSSIBLE) or not begun else []
+    return list(dict.fromkeys([*starts, *ends]))
+
+
 def near_names(name: str, known: Sequence[str]) -> List[str]:
     signs = set(name)
-    possible = known if len(known) <= POSSIBLE else heapq.nsmallest(POSSIBLE, known, key=lambda it: len(signs.symmetric_difference(it)))
+    alike = known if len(known) <= POSSIBLE else sharing(name, known)
+    possible = alike if len(alike) <= POSSIBLE else heapq.nsmallest(POSSIBLE, alike, key=lambda it: len(signs.symmetric_difference(it)))
     likely = possible if len(possible) <= LIKELY else heapq.nlargest(LIKELY, possible, key=lambda it: likeness(name, it))
     near = difflib.get_close_matches(name, likely, 2, 0.6)
-    return near + [it for it in known if it.rpartition(".")[2] == name and it not in near][:2]
+    ending = f".{name}"
+    return near + [it for it in known if it.endswith(ending) and it not in near][:2]
 
 
 def unknown_name(module: str, name: str, known: Sequence[str], later: Optional[int], uses: Sequence[str]) -> str:

@@ -3,7 +3,7 @@
 import re
 from typing import NamedTuple, Optional, Tuple
 
-PART = r"(?P<part>type|term) (?P<path>-|[0-9.]+) (?P<kind>NotASort|NotProduct|NoRule|NoAxiom|NotConvertible) (?P<values>.*)"
+PART = r"(?P<part>type|term|goal|argument \d+) (?P<path>-|[0-9.]+) (?P<kind>NotASort|NotProduct|NoRule|NoAxiom|NotConvertible) (?P<values>.*)"
 OF_A_LINE = ("BadFile", "Declaration", "NotBuilt")
 
 

@@ -1,7 +1,8 @@
 """The systems that come along: what their files say."""
 
+import functools
 import os
-from typing import Dict, List, NamedTuple, Optional, Sequence, Tuple
+from typing import List, NamedTuple, Optional, Sequence, Tuple
 
 try:
     import tomllib
@@ -42,16 +43,12 @@ def read_system(path: str) -> Optional[System]:
         return None
 
 
-_KEPT: Dict[str, List[System]] = {}
-
-
-def systems() -> List[System]:
+@functools.lru_cache(maxsize=None)
+def systems() -> Tuple[System, ...]:
     """The systems that come along: those with fewer sorts and rules come first."""
-    if "" not in _KEPT:
-        files = sorted(it for it in os.listdir(SYSTEMS) if it.endswith(ENDING)) if os.path.isdir(SYSTEMS) else []
-        found = [read_system(os.path.join(SYSTEMS, it)) for it in files]
-        _KEPT[""] = sorted((it for it in found if it), key=lambda it: (len(it.sorts), len(it.rules), it.name))
-    return _KEPT[""]
+    files = sorted(it for it in os.listdir(SYSTEMS) if it.endswith(ENDING)) if os.path.isdir(SYSTEMS) else []
+    found = [read_system(os.path.join(SYSTEMS, it)) for it in files]
+    return tuple(sorted((it for it in found if it), key=lambda it: (len(it.sorts), len(it.rules), it.name)))
 
 
 def systems_with(domain: str, body: str) -> Sequence[str]:
