@@ -9,4 +9,8 @@ pub mod Openings
 pub mod NewVariable
 pub mod LemmaFirst
 pub mod BodyPut
+pub mod Applied
+pub mod Searches
+pub mod OneArgument
+pub mod LinkChains
 pub mod Lending

@@ -1,3 +1,4 @@
 pub mod Answered
 pub mod Works
 pub mod Refining
+pub mod Applications

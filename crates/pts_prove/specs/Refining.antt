@@ -20,9 +20,9 @@ use Rattle.pts_goals.specs.OpenGoals.{Makes, holes}
 use Rattle.pts_goals.specs.OpenProofs.{OpenProof, IsFilled, with_scratch}
 use Rattle.pts_prove_cost.specs.Combining.{After, Free}
 use Rattle.pts_prove_cost.specs.Refinement.{Sequent, Argument, given, asked, Refinement, by_abstraction, by_term, by_application, by_lemma, by_statement, with_holes}
-use Rattle.pts_prove_cost.specs.Commands.{Command, no_goal, intros, exacts, cuts, unfolds, converts}
+use Rattle.pts_prove_cost.specs.Commands.{Command, no_goal, intros, exacts, applies, cuts, unfolds, converts}
 use Rattle.pts_prove.specs.declared.command.Command.{Command as HandedIn}
-use Rattle.pts_prove.specs.declared.command.Command.TheVariants.{Intro as IntroAs, Exact as ExactTerm, Cut as CutWith, Unfold as UnfoldName, Convert as ConvertTo}
+use Rattle.pts_prove.specs.declared.command.Command.TheVariants.{Intro as IntroAs, Exact as ExactTerm, Apply as ApplyTerm, Cut as CutWith, Unfold as UnfoldName, Convert as ConvertTo}
 use Rattle.pts_prove.specs.declared.fault.ProveFault.{ProveFault}
 use Rattle.pts_prove.specs.declared.fault.ProveFault.TheVariants as fault
 use Rattle.pts_prove.specs.Answered.{Refuses}
@@ -75,6 +75,7 @@ pub record IsRefined (p : OpenProof) (m : Refinement) (q : OpenProof) : Type 0 w
 abbrev pub command_of : Specification → Globals → HandedIn → Sequent → Command → ℕ → Type 0
 command_of S G (IntroAs x) g = intros S G g x.now
 command_of S G (ExactTerm t) g = exacts S G g (named t.now)
+command_of S G (ApplyTerm t) g = applies S G g (named t.now)
 command_of S G (CutWith x t) g = cuts S G g x.now (named t.now)
 command_of S G (UnfoldName c) g = unfolds S G g c.now
 command_of S G (ConvertTo t) g = converts S G g (named t.now)

@@ -7,7 +7,7 @@ ghost use Rattle.pts_rules.specs.Meter.{left};
 ghost use Rattle.pts_rules.specs.Valid.{IsValid};
 ghost use Rattle.pts_grow.specs.Keeps.{Keeps};
 ghost use Rattle.pts_reduce.specs.Given.{Later};
-ghost use Rattle.pts_prove_cost.specs.Commands.{converts, cuts, exacts, intros, unfolds};
+ghost use Rattle.pts_prove_cost.specs.Commands.{applies, converts, cuts, exacts, intros, unfolds};
 ghost use Rattle.pts_prove.specs.Refining.{Proves};
 
 use crate::command::Command;
@@ -65,6 +65,37 @@ pub fn exact(
     ensures later { Later meter.old meter.new }
 {
     refine(system, front, proof, Command::Exact(term), meter)
+}
+
+/// Puts a term for the goal that is applied to as many arguments as its type, perhaps after reduction of that type, has
+/// products before it matches the goal. An argument that the match determines is inferred, and fitted to its product; each
+/// other one is a goal, and in order they take the goal's place.
+///
+/// # Errors
+///
+/// `NoGoal`. `Deep` where the term is not within limits, at no cost. `Flaw` of the part `Whole` where the term is flawed.
+/// `NoMatch` where the type matches the goal under none of its products; `Deep` where it has more than 2,000 of them. Then, in
+/// the order of the arguments: `Flaw` of the part `Goal` where a product that was found by reduction, a domain that is to be a
+/// goal, or an argument is flawed; `Undetermined` where an argument that the match leaves open occurs in the type; and `Deep`
+/// where a type is not within limits. Were the products not met again with the arguments in them, the answer would be
+/// `NotProduct`, or `NoMatch` after the last argument, where the type is to be the goal. `Spent`, `Deep`: as those of inference,
+/// of reduction and of fits; each attempt to match costs one unit. `Deep`, last of all, where the whole term with its holes is
+/// not within limits. `Memory`.
+pub fn apply(
+    system: &System,
+    front: &Context,
+    proof: &mut Proof,
+    term: &Term,
+    meter: &mut Meter,
+) -> Result<(), ProveFault>
+    requires here { proof.old.is_lent ≡ false }
+    ensures proves { Proves proof.old (λ g. applies system.now front.now.entries g (named term.now)) result proof.new (left meter.old) (left meter.new) }
+    ensures here { proof.new.is_lent ≡ false }
+    ensures keeps { Keeps proof.old.scratch proof.new.scratch }
+    ensures valid { IsValid system.now (bare_front front.now.entries) proof.old.scratch → IsValid system.now (bare_front front.now.entries) proof.new.scratch }
+    ensures later { Later meter.old meter.new }
+{
+    refine(system, front, proof, Command::Apply(term), meter)
 }
 
 /// Puts a lemma before the goal: an abstraction over it, applied. The lemma takes the goal's place, and after it the goal under

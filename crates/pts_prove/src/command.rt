@@ -15,6 +15,7 @@ use pts_terms::Term;
 pub(crate) enum Command<'a> {
     Intro(&'a Name),
     Exact(&'a Term),
+    Apply(&'a Term),
     Cut(&'a Name, &'a Term),
     Unfold(&'a Name),
     Convert(&'a Term),
@@ -32,6 +33,7 @@ impl Work<'_> {
         match command {
             Command::Intro(name) => self.intro(goal, name),
             Command::Exact(term) => self.exact(goal, term),
+            Command::Apply(term) => self.apply(goal, term),
             Command::Cut(name, ty) => self.cut(goal, name, ty),
             Command::Unfold(name) => self.unfold(goal, name),
             Command::Convert(term) => self.convert(goal, term),

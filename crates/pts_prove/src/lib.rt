@@ -4,8 +4,10 @@
 //! Stands on open proofs, on inference, and on the definition of the commands at their cost.
 #![tactic(auto)]
 
+mod arguments;
 mod by_abstraction;
 mod by_body;
+mod by_function;
 mod by_lemma;
 mod by_statement;
 mod by_term;
@@ -13,13 +15,15 @@ mod calls;
 mod command;
 mod copies;
 mod fault;
+mod functions;
 mod judging;
 mod opening;
 mod refining;
 mod replacing;
 mod scope;
+mod searching;
 mod taking;
 mod work;
 
-pub use calls::{convert_goal, cut, exact, intro, unfold};
+pub use calls::{apply, convert_goal, cut, exact, intro, unfold};
 pub use fault::ProveFault;

@@ -16,8 +16,8 @@ use pts_infer::{Part, ProductParts, infer_product};
 use pts_record::{Record, Shape};
 use pts_reduce::whnf_turned;
 
-// The domain and the body of a term that is a product.
-fn product_parts(proof: &Record, term: usize) -> Option<(usize, usize)>
+/// The domain and the body of a term that is a product.
+pub(crate) fn product_parts(proof: &Record, term: usize) -> Option<(usize, usize)>
     requires term { term < length proof.now.shapes }
     ensures parts { option_map (λ p. (named_at proof.now.shapes p.0, named_at proof.now.shapes p.1)) result ≡ as_product (named_at proof.now.shapes term) }
     ensures stand { IfSome result (λ p. (p.0 < length proof.now.shapes) × (p.1 < length proof.now.shapes)) }
@@ -28,8 +28,8 @@ fn product_parts(proof: &Record, term: usize) -> Option<(usize, usize)>
     }
 }
 
-// The refusal of a form that is no product.
-fn refuse_form(proof: &Record, form: usize) -> ProveFault
+/// The refusal of a form that is no product.
+pub(crate) fn refuse_form(proof: &Record, form: usize) -> ProveFault
     requires form { form < length proof.now.shapes }
     ensures { (xs : Sequence Name) → Tells xs (not_product (named_at proof.now.shapes form)) result }
 {

@@ -1,6 +1,7 @@
 // What a command works on: a record and a meter, and the goal.
 
 use pts_ctx::{Context, System};
+use pts_goals::{Argument, Reduction};
 use pts_grow::{Compared, Judged};
 use pts_names::Name;
 use pts_record::Record;
@@ -47,4 +48,35 @@ pub(crate) struct LemmaParts {
     pub lemma: Sorted,
     pub inner: usize,
     pub body: Sorted,
+}
+
+/// A type under the products that were taken off: its context, the type, and how many they are. It may have their
+/// variables.
+#[derive(Clone, Copy, Debug, PartialEq, Eq)]
+pub(crate) struct Pattern {
+    pub ctx: usize,
+    pub ty: usize,
+    pub taken: usize,
+}
+
+/// A product with its domain and its body.
+#[derive(Clone, Copy, Debug, PartialEq, Eq)]
+pub(crate) struct Product {
+    pub term: usize,
+    pub domain: usize,
+    pub body: usize,
+}
+
+/// The product that the type of a function is, and how the type reduces to it where it is another term.
+#[derive(Clone, Copy, Debug, PartialEq, Eq)]
+pub(crate) struct Function {
+    pub product: Product,
+    pub change: Option<Reduction>,
+}
+
+/// An argument, and the type of the application to it.
+#[derive(Clone, Copy, Debug, PartialEq, Eq)]
+pub(crate) struct Application {
+    pub argument: Argument,
+    pub after: usize,
 }

@@ -14,8 +14,8 @@ use Rattle.pts_infer_cost.proofs.Exact.{inference_once, sorts_once, fit_once}
 use Rattle.pts_match.specs.Lowering.{is_clear}
 use Rattle.pts_match.specs.Matching.{Assignment, match_of}
 use Rattle.pts_prove_cost.specs.Combining.{After, first_stops, goes_on, Turned, comes_too, stops_too, Free, at_once, Paid, unit_first}
-use Rattle.pts_prove_cost.specs.Refinement.{Sequent}
-use Rattle.pts_prove_cost.specs.Commands.{Part, of_term, of_type, of_goal, Refusal, not_product, no_match, Command, flawed, misfit_in, Forms, formed, form_too_large, Agrees, tested, by_test, Opened, form_opens, opens_as, opens, unless_taken, place_in_scope, mentions, attempt, searches, sorted_product, function_opens, gives_argument, asks_argument, takes_argument, takes_arguments, intros, exacts, applies, cuts, changes, converts, unfolds_body, unfolds_entry, unfolds}
+use Rattle.pts_prove_cost.specs.Refinement.{Sequent, Argument}
+use Rattle.pts_prove_cost.specs.Commands.{Part, of_term, of_type, of_goal, Refusal, not_product, no_match, Command, flawed, misfit_in, Forms, formed, form_too_large, Agrees, tested, by_test, Opened, form_opens, opens_as, opens, unless_taken, place_in_scope, mentions, tries, attempt, searches, sorted_product, function_opens, gives_argument, asks_argument, takes_argument, takes_next, takes_arguments, intros, exacts, applies, cuts, changes, converts, unfolds_body, unfolds_entry, unfolds}
 
 pub one_after : {F A B : Type 0} (R : Outcome F A → ℕ → Type 0) (Q : A → Outcome F B → ℕ → Type 0) → HasOneOutcome R → ((x : A) → HasOneOutcome (Q x)) → HasOneOutcome (After R Q)
 one_after R Q f g o p m n (first_stops r) (first_stops s) = let e = f _ _ _ _ r s in (cc e.0, e.1)
@@ -60,13 +60,16 @@ module _ (G : Globals) (L : Entries) (why : Named → Refusal) where
   pub one_opening : (t : Named) → HasOneOutcome (opens G L why t)
   one_opening t = one_opening_as t (as_product t)
 
+pub one_try : (k : ℕ) (C g : Named) → HasOneOutcome (tries k C g)
+one_try k C g = one_paid _ (one_free _)
+
 one_attempt : (G : Globals) (k : ℕ) (L : Entries) (C : Named) (next : Named → Outcome Refusal Assignment → ℕ → Type 0) (o : Option Assignment) → ((B : Named) → HasOneOutcome (next B)) → HasOneOutcome (attempt G k L C next o)
 one_attempt G k L C next (Some s) f = one_free _
 one_attempt G k L C next None f = one_after _ _ (one_opening G L (λ v. no_match k) C) (λ p. f p.body)
 
 pub one_search : (G : Globals) (g : Named) (d k : ℕ) (L : Entries) (C : Named) → HasOneOutcome (searches G g d k L C)
-one_search G g zero k L C = one_paid _ (one_attempt G k L C (λ B. Free (stops by_limits)) (match_of k C g) (λ B. one_free _))
-one_search G g (suc d) k L C = one_paid _ (one_attempt G k L C (searches G g d (suc k) (unknown ∷ L)) (match_of k C g) (λ B. one_search G g d (suc k) (unknown ∷ L) B))
+one_search G g zero k L C = one_after _ _ (one_try k C g) (λ o. one_attempt G k L C (λ B. Free (stops by_limits)) o (λ B. one_free _))
+one_search G g (suc d) k L C = one_after _ _ (one_try k C g) (λ o. one_attempt G k L C (searches G g d (suc k) (unknown ∷ L)) o (λ B. one_search G g d (suc k) (unknown ∷ L) B))
 
 unless_once : (x : Name) (o : Option ℕ) (R : Command → ℕ → Type 0) → HasOneOutcome R → HasOneOutcome (unless_taken x o R)
 unless_once x None R f = f
@@ -90,7 +93,7 @@ module _ (S : Specification) (G : Globals) (L : Entries) where
   one_function T None = one_after _ _ (one_opening_as G L not_product T None) (λ p. one_product p)
 
   pub one_given : (D B a : Named) → HasOneOutcome (gives_argument S G L D B a)
-  one_given D B a = one_after _ _ (one_inferred of_goal a) (λ A. one_after _ _ (one_fitted of_goal A D) (λ u. one_free _))
+  one_given D B a = one_after _ _ (one_inferred of_goal a) (λ A. one_after _ _ (one_fitted of_goal A D) (λ u. one_after _ _ (one_free _) (λ T. one_free _)))
 
   pub one_asked : (i : ℕ) (D B : Named) (b : Bool) → HasOneOutcome (asks_argument S G L i D B b)
   one_asked i D B false = one_free _
@@ -100,14 +103,12 @@ module _ (S : Specification) (G : Globals) (L : Entries) where
   one_argument i p (Some a) = one_given p.domain p.body a
   one_argument i p None = one_asked i p.domain p.body (is_clear 0 1 p.body)
 
-  pub one_arguments : (i : ℕ) (T : Named) (s : List (Option Named)) → HasOneOutcome (takes_arguments S G L i T s)
-  one_arguments i T [] = one_free _
-  one_arguments i T (o ∷ s) =
-      one_after _ _ (one_free _) (λ T.
-      one_after _ _ (one_function T (as_product T)) (λ p.
-      one_after _ _ (one_argument i p o) (λ a.
-      one_after _ _ (one_arguments (suc i) a.1 s) (λ more.
-      one_free _))))
+  pub one_next : (i : ℕ) (T : Named) (o : Option Named) → HasOneOutcome (takes_next S G L i T o)
+  one_next i T o = one_after _ _ (one_function T (as_product T)) (λ p. one_argument i p o)
+
+  pub one_arguments : (g : Named) (i : ℕ) (T : Named) (s : List (Option Named)) (earlier : List Argument) → HasOneOutcome (takes_arguments S G L g i T s earlier)
+  one_arguments g i T [] earlier = one_free _
+  one_arguments g i T (o ∷ s) earlier = one_after _ _ (one_next i T o) (λ a. one_arguments g (suc i) a.1 s _)
 
 module _ (S : Specification) (G : Globals) (g : Sequent) where
   pub one_intro : (x : Name) → HasOneOutcome (intros S G g x)
@@ -129,7 +130,7 @@ module _ (S : Specification) (G : Globals) (g : Sequent) where
       one_after _ _ (one_free _) (λ t.
       one_after _ _ (one_inferred S G g.entries of_term t) (λ C.
       one_after _ _ (one_search G g.statement 2000 0 g.entries C) (λ s.
-      one_after _ _ (one_arguments S G g.entries 1 C (reverse s)) (λ arguments.
+      one_after _ _ (one_arguments S G g.entries g.statement 1 C (reverse s) []) (λ arguments.
       one_free _))))
 
   pub one_cut : (x : Name) (T : Named) → HasOneOutcome (cuts S G g x T)

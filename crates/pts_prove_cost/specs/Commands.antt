@@ -1,10 +1,10 @@
 -- What the proof commands come to for a goal, and at what cost: they cost what their own inferences, reductions, tests and
 -- attempts to match cost.
-use Rattle.std.specs.Prelude.{ℕ, zero, suc, ◌+◌, List, [], ◌∷◌, length, reverse, Option, Some, None, is_some, Bool, true, false, ◌||◌, if◌then◌else◌}
+use Rattle.std.specs.Prelude.{ℕ, zero, suc, ◌+◌, pred, List, [], ◌∷◌, ◌++◌, length, reverse, Option, Some, None, is_some, Bool, true, false, ◌||◌, if◌then◌else◌}
 use Rattle.std.specs.Option.{option_map, option_or}
 use Rattle.std.specs.List.{position}
 use Rattle.pts_names.specs.Name.{Name, same_name}
-use Rattle.pts_terms.specs.Tree.{Tree, Named, sort, const, var, app, named_lam, named_pi, named_let, lift, subst, subst_const}
+use Rattle.pts_terms.specs.Tree.{Tree, Named, bare, same_term, sort, const, var, app, named_lam, named_pi, named_let, lift, subst, subst_const}
 use Rattle.pts_terms.specs.Limits.{within}
 use Rattle.pts_ctx.specs.System.{Specification, rule_of}
 use Rattle.pts_ctx.specs.Front.{Global, find, assumed, unknown}
@@ -107,17 +107,21 @@ mentions c (named_lam x A b) = mentions c A || mentions c b
 mentions c (named_pi x A B) = mentions c A || mentions c B
 mentions c (named_let x a A b) = mentions c a || (mentions c A || mentions c b)
 
--- What the search for a match does with the type C under k products: it matches, or is a product, and the search goes on
--- with the body.
+-- An attempt to match the type C under k products with the statement g costs a unit.
+abbrev pub tries : (k : ℕ) → (C g : Named) → Outcome Refusal (Option Assignment) → ℕ → Type 0
+tries k C g = Paid (Free (comes (match_of k C g)))
+
+-- What the search for a match does after the attempt with the type C under k products: it has matched, or C is a product,
+-- and the search goes on with the body.
 abbrev pub attempt : Globals → (k : ℕ) → Entries → (C : Named) → (Named → Outcome Refusal Assignment → ℕ → Type 0) → Option Assignment → Outcome Refusal Assignment → ℕ → Type 0
 attempt G k L C next (Some s) = Free (comes s)
 attempt G k L C next None = After (opens G L (λ v. no_match k) C) (λ p. next p.body)
 
--- The search for a match with the statement g, where d products more may be taken off. Each attempt costs a unit. Nothing
--- is known of the variables of the products.
+-- The search for a match with the statement g, where d products more may be taken off. Nothing is known of the variables of
+-- the products.
 abbrev pub searches : Globals → (g : Named) → (d k : ℕ) → Entries → (C : Named) → Outcome Refusal Assignment → ℕ → Type 0
-searches G g zero k L C = Paid (attempt G k L C (λ B. Free (stops by_limits)) (match_of k C g))
-searches G g (suc d) k L C = Paid (attempt G k L C (searches G g d (suc k) (unknown ∷ L)) (match_of k C g))
+searches G g zero k L C = After (tries k C g) (attempt G k L C (λ B. Free (stops by_limits)))
+searches G g (suc d) k L C = After (tries k C g) (attempt G k L C (searches G g d (suc k) (unknown ∷ L)))
 
 -- How many products may be taken off.
 abbrev pub most_arguments : ℕ
@@ -134,12 +138,13 @@ module _ (S : Specification) (G : Globals) (L : Entries) where
   function_opens T None = After (opens_as G L not_product T None) sorted_product
 
   -- A term that was matched is inferred and fitted to the domain D of its product. The value is the argument, and the type
-  -- of the application to it, where B is the product's body.
+  -- of the application to it, where B is the product's body. That type must be within limits.
   abbrev pub gives_argument : (D B a : Named) → Outcome Refusal (Argument × Named) → ℕ → Type 0
   gives_argument D B a =
       After (Turned (flawed of_goal) (Infers S G inference_nesting L a)) (λ A.
       After (Turned (misfit_in of_goal) (Fits S G inference_nesting L A D)) (λ u.
-      Free (comes (given a, subst 0 a B))))
+      After (limited (subst 0 a B)) (λ T.
+      Free (comes (given a, T)))))
 
   -- A variable that is open must not occur in the body of its product. Its domain is then a goal.
   abbrev pub asks_argument : (i : ℕ) → (D B : Named) → Bool → Outcome Refusal (Argument × Named) → ℕ → Type 0
@@ -151,15 +156,15 @@ module _ (S : Specification) (G : Globals) (L : Entries) where
   takes_argument i p (Some a) = gives_argument p.domain p.body a
   takes_argument i p None = asks_argument i p.domain p.body (is_clear 0 1 p.body)
 
-  -- The arguments from the number i on, of a function of the type T, which must be within limits if there are any.
-  abbrev pub takes_arguments : (i : ℕ) → (T : Named) → List (Option Named) → Outcome Refusal (List Argument) → ℕ → Type 0
-  takes_arguments i T [] = Free (comes [])
-  takes_arguments i T (o ∷ s) =
-      After (limited T) (λ T.
-      After (function_opens T (as_product T)) (λ p.
-      After (takes_argument i p o) (λ a.
-      After (takes_arguments (suc i) a.1 s) (λ more.
-      Free (comes (a.0 ∷ more))))))
+  -- The same of a function of the type T.
+  abbrev pub takes_next : (i : ℕ) → (T : Named) → Option Named → Outcome Refusal (Argument × Named) → ℕ → Type 0
+  takes_next i T o = After (function_opens T (as_product T)) (λ p. takes_argument i p o)
+
+  -- The arguments from the number i on, of a function of the type T, after the earlier ones. The type after the last one is
+  -- the statement g, apart from printed names.
+  abbrev pub takes_arguments : (g : Named) → (i : ℕ) → (T : Named) → List (Option Named) → List Argument → Outcome Refusal (List Argument) → ℕ → Type 0
+  takes_arguments g i T [] earlier = Free (if same_term (bare T) (bare g) then comes earlier else stops (by_flaw (no_match (pred i))))
+  takes_arguments g i T (o ∷ s) earlier = After (takes_next i T o) (λ a. takes_arguments g (suc i) a.1 s (earlier ++ a.0 ∷ []))
 
 -- The commands, in a system and a front, for a goal.
 module _ (S : Specification) (G : Globals) (g : Sequent) where
@@ -186,7 +191,7 @@ module _ (S : Specification) (G : Globals) (g : Sequent) where
       After (limited t) (λ t.
       After (Turned (flawed of_term) (Infers S G inference_nesting g.entries t)) (λ C.
       After (searches G g.statement most_arguments 0 g.entries C) (λ s.
-      After (takes_arguments S G g.entries 1 C (reverse s)) (λ arguments.
+      After (takes_arguments S G g.entries g.statement 1 C (reverse s) []) (λ arguments.
       Free (comes (by_application t arguments))))))
 
   -- cut x : T: the lemma has a sort, and so has the goal after the hypothesis x : T. There is a rule for the two.

@@ -6,6 +6,9 @@ returns-in-Intro-clause-came c = rw c.in-Intro.is c.intro.ensures.came
 pub returns-in-Exact-clause-came : goal.returns-in-Exact-clause-came
 returns-in-Exact-clause-came c = rw c.in-Exact.is c.exact.ensures.came
 
+pub returns-in-Apply-clause-came : goal.returns-in-Apply-clause-came
+returns-in-Apply-clause-came c = rw c.in-Apply.is c.apply.ensures.came
+
 pub returns-in-Cut-clause-came : goal.returns-in-Cut-clause-came
 returns-in-Cut-clause-came c = rw c.in-Cut.is c.cut.ensures.came
 

@@ -1,0 +1,11 @@
+use Rattle.std.proofs.Common.{sym}
+use Rattle.pts_record.specs.Table.{named_at}
+use Rattle.pts_prove_cost.specs.Commands.{not_product}
+use Rattle.pts_prove.proofs.Searches.{product_found, no_product}
+use Rattle.pts_prove.proofs.work.Work.form_applies.Goals as goal
+
+pub returns-in-Some-clause-came : goal.returns-in-Some-clause-came
+returns-in-Some-clause-came c = product_found not_product (sym c.in-Some.ensures.parts)
+
+pub returns-in-None-clause-came : goal.returns-in-None-clause-came
+returns-in-None-clause-came c = no_product not_product (named_at c.args.self.now.proof.now.shapes c.args.form) (sym c.in-None.ensures.parts) (c.refuse_form.ensures c.args.self.now.names.now)
