@@ -94,7 +94,7 @@ ROWS: List[Command] = [
     row("abort", "abort", "Gives the proof up.", PROVE, "sent kept unbuilt"),
     row("assume", "assume X : TERM", "Assumes X, of the type TERM. It is in the draft.", DECLARE, "sent kept terms", Offer.NAMES),
     row("define", "define X := TERM | define X : TERM := TERM", "Defines X. It is in the draft.", DECLARE, "sent kept terms", Offer.NAMES),
-    row("rename", "rename X Y", "Gives the declaration X of the draft the name Y.", DECLARE, "sent kept unbuilt", Offer.NAMES),
+    row("rename", "rename X Y", "Gives the declaration X of the draft the name Y.", DECLARE, "sent kept", Offer.NAMES),
     row("draft", "draft", "Shows what is declared and not committed yet.", DECLARE, "sent"),
     row("discard", "discard", "Empties the draft.", DECLARE, "sent kept"),
     row("commit", "commit", "Makes the draft part of the context. Nothing takes it out again.", DECLARE, "sent kept event"),

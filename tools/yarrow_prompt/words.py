@@ -42,7 +42,6 @@ UNTIL_BUILT: Dict[object, str] = {
     Group.PROVE: "A proof is a term here: define X : TERM := TERM.",
     Group.LIBRARY: "A module is checked by: bin/yarrow batch SPEC MODULE",
     "undo": "The command back takes lines back.",
-    "rename": "The command back takes lines back, which may then be given with another name.",
 }
 OF_THE_LINE = {
     "NothingToCommit": "The draft is empty.",

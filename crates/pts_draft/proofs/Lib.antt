@@ -3,3 +3,4 @@ pub mod Following
 pub mod Freeness
 pub mod Keeping
 pub mod Refusing
+pub mod NewNames

@@ -3,7 +3,7 @@
 ghost use Rattle.std.specs.Prelude.{◌≡◌, ◌≤◌, ◌-◌, ◌∷◌, ◌++◌, [], length, take, true, None, IfOk, IfErr, OnOk, OnErr};
 ghost use Rattle.std.specs.Option.{option_map};
 ghost use Rattle.pts_terms.specs.Seen.{named};
-ghost use Rattle.pts_ctx.specs.Front.{bare_front};
+ghost use Rattle.pts_ctx.specs.Front.{Fresh, bare_front};
 ghost use Rattle.pts_ctx.specs.Seen.{IsPrefix, place_of};
 ghost use Rattle.pts_rules.specs.Derives.{Legal};
 ghost use Rattle.pts_rules.specs.Meter.{left};
@@ -16,14 +16,18 @@ ghost use Rattle.pts_core.specs.InnerNames.{NoneInner};
 ghost use Rattle.pts_core.specs.declared.finding.Finding.TheVariants.{Sound};
 ghost use Rattle.pts_draft.specs.Drafts.{IsDeclared, IsLegalDraft, definition_of, first_taken, scope};
 ghost use Rattle.pts_draft.specs.Refusals.{IsTaken, RefusesStated};
+ghost use Rattle.pts_draft.specs.Renaming.{AreRenamed, IsRenamed, RefusesRenaming, declares};
+ghost use Rattle.pts_image.specs.Renaming.{new_name};
 
 use crate::copies::copies_of;
-use crate::fault::DraftFault;
+use crate::fault::{DraftFault, RenameFault};
+use crate::renaming::{declares, extend_renamed};
 use crate::scopes::{extend, first_taken, scope_over};
 use pts_check::concluded_limits;
 use pts_core::{Examined, Offer, examine_sound};
 use pts_ctx::{Context, System};
 use pts_declare::{Stated, check};
+use pts_image::OneName;
 use pts_names::{List, Name};
 use pts_record::Declaration;
 use pts_rules::Meter;
@@ -223,6 +227,31 @@ impl Draft {
         count
     }
 
+    /// Renames a declaration: its entry, and each use of its name in the terms and in the records of the draft. The printed names of
+    /// binders stay. It infers nothing, and costs copies of the declarations.
+    ///
+    /// # Errors
+    ///
+    /// `NotThere`, where no declaration of the draft has the old name; then `Taken`, where the new name exists in the scope, also if
+    /// it is the old one. `Memory`.
+    pub fn rename(&mut self, old: &Name, new: Name) -> Result<(), RenameFault>
+        ensures renamed { OnOk result (IsRenamed self.old old.now new self.new.declarations) }
+        ensures refused { IfErr result (λ e. RefusesRenaming self.old old.now new e) }
+        ensures system { self.new.system ≡ self.old.system }
+        ensures entries { self.new.entries ≡ self.old.entries }
+        ensures labels { self.new.labels ≡ self.old.labels }
+        ensures same { OnErr result (self.new ≡ self.old) }
+    {
+        if !declares(&self.declarations, old) {
+            return Err(RenameFault::NotThere(old.copy()?));
+        }
+        if let Some(place) = self.scope.place_of(&new) {
+            return Err(RenameFault::Taken(new, place));
+        }
+        self.take_names(&OneName { old, new: &new })?;
+        Ok(())
+    }
+
     /// The first declaration whose name exists in a front, by that name and its place there.
     pub fn first_taken(&self, front: &Context) -> Option<(&Name, usize)>
         ensures { option_map (λ t. (t.0.now, t.1)) result ≡ first_taken front.now.entries self.now.declarations }
@@ -354,6 +383,24 @@ impl Draft {
         }
         let declaration = check(self.alloc, system, &self.scope, name, stated, meter)?;
         self.enter(declaration)?;
+        Ok(())
+    }
+
+    // Gives the declarations the new name.
+    fn take_names(&mut self, names: &OneName<'_>) -> Result<(), AllocError>
+        requires there { declares self.old.declarations names.now.old.now ≡ true }
+        requires free { Fresh names.now.new.now (scope self.old) }
+        ensures renamed { OnOk result (AreRenamed (new_name names.now.old.now names.now.new.now) self.old.declarations self.new.declarations) }
+        ensures system { self.new.system ≡ self.old.system }
+        ensures entries { self.new.entries ≡ self.old.entries }
+        ensures labels { self.new.labels ≡ self.old.labels }
+        ensures same { OnErr result (self.new ≡ self.old) }
+    {
+        self.scope.is_orderly();
+        let mut scope = self.front.copy()?;
+        let declarations = extend_renamed(self.alloc, &mut scope, &self.declarations, names)?;
+        self.scope = scope;
+        self.declarations = declarations;
         Ok(())
     }
 

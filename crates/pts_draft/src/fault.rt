@@ -2,6 +2,7 @@
 
 ghost use Rattle.std.specs.Prelude.{◌≡◌};
 ghost use Rattle.pts_draft.specs.declared.fault.DraftFault.TheVariants.{Memory as NoMemory};
+ghost use Rattle.pts_draft.specs.declared.fault.RenameFault.TheVariants.{Memory as NotRenamed};
 ghost use Rattle.pts_draft.specs.Refusals.{draft_fault};
 
 use pts_declare::{DeclareFault, InferFault, Part};
@@ -35,5 +36,24 @@ impl From<AllocError> for DraftFault {
 
     fn from(_: AllocError) -> DraftFault {
         DraftFault::Memory
+    }
+}
+
+/// Why a declaration is not renamed.
+#[derive(Debug, Drop)]
+pub enum RenameFault {
+    /// No declaration of the draft has this name.
+    NotThere(Name),
+    /// The new name is taken already, at that place.
+    Taken(Name, usize),
+    /// Out of memory.
+    Memory,
+}
+
+impl From<AllocError> for RenameFault {
+    ghost from_gives = { λ _ fault. fault ≡ NotRenamed };
+
+    fn from(_: AllocError) -> RenameFault {
+        RenameFault::Memory
     }
 }

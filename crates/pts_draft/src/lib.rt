@@ -6,8 +6,9 @@
 mod copies;
 mod draft;
 mod fault;
+mod renaming;
 mod scopes;
 
 pub use draft::Draft;
-pub use fault::DraftFault;
+pub use fault::{DraftFault, RenameFault};
 pub use pts_declare::{InferFault, Part};

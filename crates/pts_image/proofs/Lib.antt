@@ -4,6 +4,7 @@ pub mod Heads
 pub mod Rows
 pub mod Renamed
 pub mod RenamedFronts
+pub mod RenamedTerms
 pub mod Trails
 pub mod ImageTrees
 pub mod ImageLines

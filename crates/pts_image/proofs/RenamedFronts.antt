@@ -8,7 +8,7 @@ use Rattle.pts_ctx.proofs.Find.{some_same}
 use Rattle.pts_image.specs.Renaming.{new_name, renamed_entry, Renames}
 
 module _ (old new : Name) where
-  differ : (x y : Name) → same_name x y ≡ false → same_name new y ≡ false → same_name x new ≡ false → same_name (new_name old new x) (new_name old new y) ≡ false
+  pub differ : (x y : Name) → same_name x y ≡ false → same_name new y ≡ false → same_name x new ≡ false → same_name (new_name old new x) (new_name old new y) ≡ false
   differ x y d n m = by_case (same_name old x) refl (same_name old y) refl
     where
       by_case : (a : Bool) → same_name old x ≡ a → (b : Bool) → same_name old y ≡ b → same_name (if a then new else x) (if b then new else y) ≡ false

@@ -1,7 +1,8 @@
 -- New names in terms, fronts and records.
 use Rattle.std.specs.Prelude.{◌≡◌, map, true, Some, if◌then◌else◌}
 use Rattle.pts_names.specs.Name.{Name, same_name}
-use Rattle.pts_terms.specs.Tree.{const}
+use Rattle.pts_terms.specs.Tree.{Tree, const}
+use Rattle.pts_terms.specs.Replaced.{replaced}
 use Rattle.pts_ctx.specs.System.{Specification}
 use Rattle.pts_ctx.specs.Front.{Global, Front, Fresh, find}
 use Rattle.pts_record.specs.Table.{Tables}
@@ -12,6 +13,10 @@ use Rattle.pts_image.specs.Image.{entry_image}
 -- One name gets a new one, every other name stays.
 abbrev pub new_name : (old new : Name) → Name → Name
 new_name old new c = if same_name old c then new else c
+
+-- A term with the new names of its constants. The printed names of binders stay.
+abbrev pub renamed_term : {B : Type 0} → (Name → Name) → Tree B → Tree B
+renamed_term g t = replaced (λ c. const (g c)) t
 
 -- An entry with its new name, and with those of the constants in its terms. Printed names stay.
 abbrev pub renamed_entry : {B : Type 0} → (Name → Name) → Global B → Global B

@@ -5,6 +5,7 @@
 
 mod append;
 mod closed;
+mod declaration;
 mod grafting;
 mod laws;
 mod lines;
@@ -14,6 +15,7 @@ mod substitution;
 
 pub use append::append_image;
 pub use closed::{is_closed_judgement, is_last_closed};
+pub use declaration::{rename_declaration, rename_term};
 pub use grafting::graft;
 pub use laws::{
     arguments_are_interpreted, assumptions_are_interpreted, bases_are_interpreted,
@@ -24,6 +26,6 @@ pub use laws::{
 };
 pub use pts_record::{Name, Names, Record};
 pub use pts_terms::Big;
-pub use rename::rename_const;
+pub use rename::{OneName, rename_const};
 pub use replacement::{Replacement, Replacements};
 pub use substitution::subst_const;

@@ -7,11 +7,11 @@ ghost use Rattle.pts_image.specs.Renaming.{new_name};
 use pts_record::{Name, Names, Record};
 use std::alloc::AllocError;
 
-// One constant has a new name.
+/// One constant has a new name; every other one keeps its own.
 #[derive(Drop)]
-struct OneName<'a> {
-    old: &'a Name,
-    new: &'a Name,
+pub struct OneName<'a> {
+    pub old: &'a Name,
+    pub new: &'a Name,
 }
 
 impl<'a> Names for OneName<'a> {

@@ -2,6 +2,7 @@ pub mod Answering
 pub mod Plain
 pub mod Inner
 pub mod Declared
+pub mod Renamed
 pub mod Doing
 pub mod Hearing
 pub mod Ran

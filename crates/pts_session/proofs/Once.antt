@@ -1,6 +1,7 @@
 -- A line of a session has one outcome at most, and so has an answer.
 use Rattle.std.proofs.Common.{◌≡◌, ◌≢◌, ◌<◌, ◌+◌, ℕ, List, [], ◌∷◌, codes, Option, Some, None, length, option_map, refl, sym, ap, ◌∙◌, subst, arith, Ok}
 use Rattle.std.proofs.lemmas.Option.{same_Some}
+use Rattle.pts_names.specs.Name.{Name}
 use Rattle.pts_ctx.specs.System.{Specification}
 use Rattle.pts_ctx.specs.Front.{find}
 use Rattle.pts_grammar.specs.Seen.{syntax_of}
@@ -36,9 +37,10 @@ use Rattle.pts_queries.specs.Replies.{refusal, declared_line}
 use Rattle.pts_queries.specs.Queries.{AnswersInfer, AnswersReduce, AnswersEqual, found_line}
 use Rattle.pts_queries.proofs.Once.{infer_once, reduce_once, equal_once}
 use Rattle.pts_session.specs.State.{State, Waiting, Came, scope, changed, settled, OffersDraft}
-use Rattle.pts_session.specs.Replies.{count_line, taken_line}
+use Rattle.pts_session.specs.Replies.{count_line, name_text, place_text, taken_line}
 use Rattle.pts_session.specs.Declaring.{Declares, unknown_word, name_is_taken, is_stopped, is_spent, enters, with_entry, word_of}
-use Rattle.pts_session.specs.Lines.{tests, first_failing, IsLine, Does, looks, commits, assumes_type, defines_name, sets_budget, infers, reduces, compares, discards, shows, lists_draft, ComesTo, is_no_line, is_refused, is_done}
+use Rattle.pts_session.specs.Renaming.{RenamesEntry, is_not_there, new_name_is_taken, gets_new_name, with_new_name}
+use Rattle.pts_session.specs.Lines.{tests, first_failing, IsLine, Does, looks, commits, assumes_type, defines_name, sets_budget, infers, reduces, compares, renames, discards, shows, lists_draft, ComesTo, is_no_line, is_refused, is_done}
 use Rattle.pts_session.specs.Answers.{first_taken, Resume, moves, stays, has_entered, has_not_entered}
 use Rattle.pts_session.specs.Laws.{IsOneOutcome, both_done, both_ask}
 
@@ -147,6 +149,18 @@ module _ (S : Specification) (s : State) where
       let h : e ≡ f = cc o in
       (ap (λ g. declared_line S.sorts (word_of d) g ∷ []) h, ap (λ g. changed s (with_entry S s g)) h)
 
+  -- A renaming.
+  renames_once : (x y : Name) (k l : List (List ℕ)) (t u : State) → RenamesEntry s x y k t → RenamesEntry s x y l u → (k ≡ l) × (t ≡ u)
+  renames_once x y k l t u (is_not_there e) (is_not_there f) = (refl, refl)
+  renames_once x y k l t u (is_not_there e) (new_name_is_taken f g) = absurd (cc)
+  renames_once x y k l t u (is_not_there e) (gets_new_name f g) = absurd (cc)
+  renames_once x y k l t u (new_name_is_taken f g) (is_not_there e) = absurd (cc)
+  renames_once x y k l t u (new_name_is_taken {p = p} e f) (new_name_is_taken {p = q} g h) = let i : p ≡ q = cc in (ap (λ z. refusal (place_text (codes "Taken") y z) ∷ []) i, refl)
+  renames_once x y k l t u (new_name_is_taken e f) (gets_new_name g h) = absurd (cc)
+  renames_once x y k l t u (gets_new_name f g) (is_not_there e) = absurd (cc)
+  renames_once x y k l t u (gets_new_name e f) (new_name_is_taken g h) = absurd (cc)
+  renames_once x y k l t u (gets_new_name e f) (gets_new_name g h) = (refl, refl)
+
   -- What is offered of a draft is one event.
   offers_event : (x : SeenExamined) (n : ℕ) (F : LabelledFront) → OffersDraft S s x → submitted n x F ≡ submission n (length s.base.entries) s.draft None Sound F
   offers_event x n F o = rw (sym (ap (λ G. length G.entries) o.front), sym o.entries, o.label, o.finding) refl
@@ -174,6 +188,10 @@ module _ (S : Specification) (s : State) where
       let e : syntax_of t ≡ syntax_of u = cc h in
       let f : syntax_of v ≡ syntax_of w = cc h in
       one_done _ _ _ _ (ap (λ m. m ∷ []) (equal_once S (scope s) s.budget (syntax_of u) (syntax_of w) k l (subst (λ T. AnswersEqual S (scope s) s.budget T (syntax_of w) k) e (subst (λ T. AnswersEqual S (scope s) s.budget (syntax_of t) T k) f a)) b), refl)
+  does_once c d o p h (renames {x = x} {y = y} {replies = k} {t = t} D) (renames {x = v} {y = w} {replies = l} {t = u} E) =
+      let e : v ≡ x = cc h in
+      let f : w ≡ y = cc h in
+      one_done k l t u (renames_once x y k l t u D (subst (λ z. RenamesEntry s z y l u) e (subst (λ z. RenamesEntry s v z l u) f E)))
   does_once c d o p h discards discards = both_done
   does_once c d o p h (shows {p = q} {x = x} {line = k} a) (shows {p = r} {x = y} {line = l} b) =
       let e : q ≡ r = cc h in

@@ -1,4 +1,4 @@
--- The names that a line declares are plain, and no plain name is inner.
+-- The names that a line gives to declarations are plain, and no plain name is inner.
 use Rattle.std.proofs.Common.{◌≡◌, ◌<◌, ℕ, zero, suc, Bool, true, false, List, [], ◌∷◌, ◌++◌, get_or, refl, sym, ap, ◌∙◌, subst, eqb-true, ◌==◌, lit<}
 use Rattle.std.specs.Prelude.{chars, ◌&&◌}
 use Rattle.std.proofs.lemmas.Str.{chars-append, chars-IsAscii, IsUtf8-from_ascii}
@@ -16,7 +16,7 @@ said_plain text L (ts, e, a_line w (a_plain p)) = tt
 said_plain text L (ts, e, a_line w (a_name)) = tt
 said_plain text L (ts, e, a_line w (a_term r)) = tt
 said_plain text L (ts, e, a_line w (a_type p r)) = p
-said_plain text L (ts, e, a_line w (two_names p q)) = tt
+said_plain text L (ts, e, a_line w (two_names p q)) = q
 said_plain text L (ts, e, a_line w (a_number u)) = tt
 said_plain text L (ts, e, a_line w (two_terms r s)) = tt
 said_plain text L (ts, e, a_line w (untyped p r)) = p

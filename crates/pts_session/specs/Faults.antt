@@ -3,11 +3,19 @@ use Rattle.std.specs.Prelude.{ℕ, List, codes}
 use Rattle.pts_flaw_text.specs.InferText.{infer_text}
 use Rattle.pts_draft.specs.declared.fault.DraftFault.{DraftFault}
 use Rattle.pts_draft.specs.declared.fault.DraftFault.TheVariants.{Taken, Infer, Memory}
+use Rattle.pts_draft.specs.declared.fault.RenameFault.{RenameFault}
+use Rattle.pts_draft.specs.declared.fault.RenameFault.TheVariants as renaming
 use Rattle.pts_queries.specs.Replies.{refusal}
-use Rattle.pts_session.specs.Replies.{place_text}
+use Rattle.pts_session.specs.Replies.{name_text, place_text}
 
 -- Running out of memory is never printed.
 abbrev pub fault_line : (sorts : List (List ℕ)) → DraftFault → List ℕ
 fault_line sorts (Taken x p) = refusal (place_text (codes "Taken") x p)
 fault_line sorts (Infer part fault) = refusal (infer_text sorts part fault)
 fault_line sorts Memory = refusal (codes "Memory")
+
+-- The same where a draft does not rename.
+abbrev pub rename_line : RenameFault → List ℕ
+rename_line (renaming.NotThere x) = refusal (name_text (codes "NotThere") x)
+rename_line (renaming.Taken x p) = refusal (place_text (codes "Taken") x p)
+rename_line renaming.Memory = refusal (codes "Memory")

@@ -1,6 +1,7 @@
 pub mod State
 pub mod Replies
 pub mod Declaring
+pub mod Renaming
 pub mod Lines
 pub mod Answers
 pub mod Laws

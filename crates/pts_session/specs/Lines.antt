@@ -8,7 +8,7 @@ use Rattle.pts_parser.specs.declared.fault.ReadFault.{ReadFault}
 use Rattle.pts_parser.specs.declared.fault.ReadFault.TheVariants.{Memory}
 use Rattle.pts_parser.specs.FaultText.{read_text}
 use Rattle.pts_lines.specs.declared.line.Line.{Line}
-use Rattle.pts_lines.specs.declared.line.Line.TheVariants.{Look, Commit, Assume, Define, Budget, Infer, Reduce, Equal, Discard, Show, Draft}
+use Rattle.pts_lines.specs.declared.line.Line.TheVariants.{Look, Commit, Assume, Define, Budget, Infer, Reduce, Equal, Rename, Discard, Show, Draft}
 use Rattle.pts_lines.specs.Words.{command}
 use Rattle.pts_lines.specs.Reading.{SaysLine, FewOpen, RefusesText}
 use Rattle.pts_lines.specs.Seen.{line_of, deepest, terms_of}
@@ -22,6 +22,7 @@ use Rattle.pts_session.specs.declared.request.Request.TheVariants as request
 use Rattle.pts_session.specs.State.{State, Came, scope, changed, OffersDraft}
 use Rattle.pts_session.specs.Replies.{count_line}
 use Rattle.pts_session.specs.Declaring.{Declares, defines_by}
+use Rattle.pts_session.specs.Renaming.{RenamesEntry}
 
 -- The lines that are built.
 abbrev pub is_built : Line → Bool
@@ -33,6 +34,7 @@ is_built (Budget n) = true
 is_built (Infer t) = true
 is_built (Reduce t) = true
 is_built (Equal t u) = true
+is_built (Rename x y) = true
 is_built Discard = true
 is_built (Show p x) = true
 is_built Draft = true
@@ -77,6 +79,7 @@ module _ (S : Specification) (s : State) where
     infers : {t : Tree} {line : List ℕ} → AnswersInfer S (scope s) s.budget (syntax_of t) line → Does (Infer t) (done (line ∷ []) s)
     reduces : {t : Tree} {line : List ℕ} → AnswersReduce S (scope s) s.budget (syntax_of t) line → Does (Reduce t) (done (line ∷ []) s)
     compares : {t u : Tree} {line : List ℕ} → AnswersEqual S (scope s) s.budget (syntax_of t) (syntax_of u) line → Does (Equal t u) (done (line ∷ []) s)
+    renames : {x y : Name} {replies : List (List ℕ)} {t : State} → RenamesEntry s x y replies t → Does (Rename x y) (done replies t)
     discards : Does Discard (done (count_line (codes "discarded") (length s.draft) ∷ []) (changed s (record s { draft = [] })))
     shows : {p : ℕ} {x : Name} {line : List ℕ} → AnswersShow S (scope s) p x line → Does (Show p x) (done (line ∷ []) s)
     lists_draft : Does Draft (done draft_lines s)

@@ -12,13 +12,15 @@ use Rattle.pts_core.specs.declared.reply.Reply.TheVariants.{Seen, Committed, Fau
 use Rattle.pts_core.specs.Replies.{LabelledFront}
 use Rattle.pts_core.specs.Ports.{handed_on}
 use Rattle.pts_lines.specs.declared.line.Line.{Line}
+use Rattle.pts_names.specs.Name.{Name}
 use Rattle.pts_play.specs.Machines.{done, asks}
 use Rattle.pts_statement.specs.Statements.{Statement}
 use Rattle.pts_session.specs.declared.request.Request.{Request}
 use Rattle.pts_session.specs.declared.request.Request.TheVariants as request
 use Rattle.pts_session.specs.State.{State, Waiting, awaited_after, IsRequestOf}
 use Rattle.pts_session.specs.Declaring.{Declares, unknown_word, name_is_taken, is_stopped, is_spent, enters}
-use Rattle.pts_session.specs.Lines.{Does, looks, commits, assumes_type, defines_name, sets_budget, infers, reduces, compares, discards, shows, lists_draft, ComesTo, is_no_line, is_refused, is_done}
+use Rattle.pts_session.specs.Renaming.{RenamesEntry, is_not_there, new_name_is_taken, gets_new_name}
+use Rattle.pts_session.specs.Lines.{Does, looks, commits, assumes_type, defines_name, sets_budget, infers, reduces, compares, renames, discards, shows, lists_draft, ComesTo, is_no_line, is_refused, is_done}
 use Rattle.pts_session.specs.Answers.{reply_in, Resume, moves, stays, has_entered, has_not_entered}
 use Rattle.pts_session.specs.Laws.{HasBase, old_base, new_base}
 use Rattle.pts_session.specs.Seen.{SeenSession}
@@ -33,6 +35,11 @@ declares_keep S s t d replies (is_stopped n e f w) = refl
 declares_keep S s t d replies (is_spent e f w) = refl
 declares_keep S s t d replies (enters n e f w) = refl
 
+renames_keep : (s t : State) (x y : Name) (replies : List (List ℕ)) → RenamesEntry s x y replies t → t.base ≡ s.base
+renames_keep s t x y replies (is_not_there e) = refl
+renames_keep s t x y replies (new_name_is_taken e f) = refl
+renames_keep s t x y replies (gets_new_name e f) = refl
+
 does_keep : (S : Specification) (s t : State) (c : Line) (replies : List (List ℕ)) → Does S s c (done replies t) → t.base ≡ s.base
 does_keep S s t c replies (assumes_type d) = declares_keep S s t _ replies d
 does_keep S s t c replies (defines_name d) = declares_keep S s t _ replies d
@@ -40,6 +47,7 @@ does_keep S s t c replies sets_budget = refl
 does_keep S s t c replies (infers a) = refl
 does_keep S s t c replies (reduces a) = refl
 does_keep S s t c replies (compares a) = refl
+does_keep S s t c replies (renames d) = renames_keep s t _ _ replies d
 does_keep S s t c replies discards = refl
 does_keep S s t c replies (shows a) = refl
 does_keep S s t c replies lists_draft = refl

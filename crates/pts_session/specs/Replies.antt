@@ -7,6 +7,10 @@ use Rattle.pts_names.specs.Name.{Name}
 abbrev pub count_line : (word : List ℕ) → ℕ → List ℕ
 count_line word n = word ++ (codes " " ++ decimal n)
 
+-- A word and a name.
+abbrev pub name_text : (word : List ℕ) → Name → List ℕ
+name_text word x = word ++ (codes " " ++ x)
+
 -- A word, a name and a place.
 abbrev pub place_text : (word : List ℕ) → Name → ℕ → List ℕ
 place_text word x p = word ++ (codes " " ++ (x ++ (codes " " ++ decimal p)))

@@ -9,6 +9,7 @@ mod laws;
 mod moving;
 mod players;
 mod port_table;
+mod renaming;
 mod replies;
 mod request;
 mod session;

@@ -5,7 +5,7 @@ ghost use Rattle.pts_core.specs.ReplyText.{reply_text};
 ghost use Rattle.pts_parser.specs.declared.fault.ReadFault.{ReadFault};
 ghost use Rattle.pts_parser.specs.FaultText.{read_text};
 ghost use Rattle.pts_queries.specs.Replies.{refusal};
-ghost use Rattle.pts_session.specs.Replies.{count_line, taken_line};
+ghost use Rattle.pts_session.specs.Replies.{count_line, name_text, taken_line};
 
 use pts_core::Reply;
 use pts_names::{Name, Text};
@@ -24,6 +24,13 @@ pub(crate) fn taken_line(alloc: Global, name: &Name, place: usize) -> Result<Tex
     ensures { IfOk result (λ line. line ≡ taken_line name.now place) }
 {
     Ok(Text::of(format!(in alloc; "taken {name} {place}")?))
+}
+
+/// A word and a name.
+pub(crate) fn name_line(alloc: Global, word: &str, name: &Name) -> Result<Text, AllocError>
+    ensures { IfOk result (λ line. line ≡ name_text word.now name.now) }
+{
+    Ok(Text::of(format!(in alloc; "{word} {name}")?))
 }
 
 /// A word and a number.

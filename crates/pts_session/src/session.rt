@@ -25,6 +25,7 @@ ghost use Rattle.pts_core.specs.ReplyText.{reply_text};
 
 use crate::declaring::{assume, define};
 use crate::moving::move_draft;
+use crate::renaming::rename;
 use crate::replies::{count_line, one, refused_line, reply_line, unread_line};
 use crate::request::{Awaited, Request};
 use crate::world::World;
@@ -163,6 +164,7 @@ impl Session {
             | Line::Infer(_)
             | Line::Reduce(_)
             | Line::Equal(..)
+            | Line::Rename(..)
             | Line::Discard
             | Line::Show(..)
             | Line::Draft => None,
@@ -197,6 +199,7 @@ impl Session {
             Line::Assume(name, ty) => self.assume(alloc, world, name, ty),
             Line::Define(name, ty, body) => self.define(alloc, world, name, ty, body),
             Line::Budget(units) => self.set_budget(alloc, world, *units),
+            Line::Rename(old, new) => self.rename(alloc, world, old, new),
             Line::Discard => self.discard(alloc, world),
             _ => self.query(alloc, world, line),
         }
@@ -290,6 +293,26 @@ impl Session {
         let _ = world;
         let lines = one(alloc, count_line(alloc, "budget", units)?)?;
         self.budget = units;
+        Ok(Local::Done(lines))
+    }
+
+    // `rename OLD NEW`
+    fn rename(
+        &mut self,
+        alloc: Global,
+        world: &World,
+        old: &Name,
+        new: &Name,
+    ) -> Result<Local<Request>, AllocError>
+        requires free { IsFree world.now.system self.old }
+        requires plain { is_plain new.now ≡ true }
+        ensures line { IfOk result (λ l. Does world.now.system self.old.state (line.Rename old.now new.now) (came_to l self.new.state)) }
+        ensures awaits { IfOk result (λ l. self.new.awaited ≡ awaited_by l) }
+        ensures system { self.new.system ≡ self.old.system }
+        ensures same { OnErr result (self.new ≡ self.old) }
+    {
+        let _ = world;
+        let lines = rename(alloc, &mut self.draft, old, new)?;
         Ok(Local::Done(lines))
     }
 
