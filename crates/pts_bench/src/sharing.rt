@@ -1,14 +1,10 @@
 // How long looks at a shared core take.
 
-ghost use Rattle.std.specs.Prelude.{IfSome};
-ghost use Rattle.pts_core.specs.Cores.{MaySubmit};
-
 use crate::contexts::since;
 use crate::entries::numbered;
-use pts_core::{Core, Declaration, Examined, List, Offer, examine, first_inner};
-use pts_record::{Record, Sort, Term};
-use pts_samples::{fill, simple};
-use pts_share_tests::looked;
+use pts_core::{Core, Declaration};
+use pts_samples::simple;
+use pts_share_tests::{assumption, examined_over, looked};
 use std::alloc::Global;
 use std::io;
 use std::rt::Clock;
@@ -51,7 +47,7 @@ pub fn looking<R: Threads + Wait + Sync + Clock>(
 fn library(alloc: Global, entries: usize) -> Option<Core> {
     let mut core = Core::new(alloc, simple(alloc)?);
     let declarations = assumptions(alloc, entries)?;
-    let examined = examined(alloc, &core, declarations)?;
+    let examined = examined_over(alloc, &core, declarations)?;
     core.answer_submit(1, examined).ok()?;
     core.answer_look(1).ok()?;
     if core.context().len() == entries {
@@ -61,45 +57,11 @@ fn library(alloc: Global, entries: usize) -> Option<Core> {
     }
 }
 
-// What is offered over the front of a core, examined.
-fn examined(alloc: Global, core: &Core, declarations: Vec<Declaration>) -> Option<Examined>
-    ensures { IfSome result (λ x. MaySubmit x core.now) }
-{
-    if let Some(_) = first_inner(declarations.as_slice()) {
-        return None;
-    }
-    let Ok(front) = core.context().copy() else {
-        return None;
-    };
-    core.is_legal();
-    let offer = Offer {
-        front,
-        declarations: List::of(declarations),
-        label: None,
-    };
-    match examine(alloc, core.system(), offer) {
-        Ok(examined) => Some(examined),
-        Err(_) => None,
-    }
-}
-
 fn assumptions(alloc: Global, count: usize) -> Option<Vec<Declaration>> {
     let mut declarations = Vec::new(alloc);
     for number in 0..count {
-        declarations.push(assumption(alloc, number)?).ok()?;
+        let name = numbered(alloc, number).ok()?;
+        declarations.push(assumption(alloc, name)?).ok()?;
     }
     Some(declarations)
-}
-
-// The assumption of the name with a number, whose type is the first sort.
-fn assumption(alloc: Global, number: usize) -> Option<Declaration> {
-    let name = numbered(alloc, number).ok()?;
-    let mut proof = Record::new(alloc);
-    fill(&mut proof, 1).ok()?;
-    Some(Declaration {
-        name,
-        body: None,
-        ty: Term::Sort(Sort(0)),
-        proof,
-    })
 }

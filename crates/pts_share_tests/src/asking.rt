@@ -7,10 +7,9 @@ ghost use Rattle.pts_core.specs.Cores.{IsOver, MaySubmit, front_of};
 ghost use Rattle.pts_share.specs.Passes.{IsPassOf, history_of};
 ghost use Rattle.pts_share.specs.Sharing.{core_of, system_of, table_of};
 
+use crate::offers::{assumption, examined_over};
 use crate::pairs::{put_both, take_both};
-use pts_core::{Declaration, Examined, List, Name, Offer, examine, first_inner};
-use pts_record::{Record, Sort, Term};
-use pts_samples::fill;
+use pts_core::{Examined, Name};
 use pts_share::{Answer, Core, Pass, Port, PortFault, Shared, SharedPort, seen, session};
 use std::alloc::{AllocError, Global};
 use std::sync::Wait;
@@ -32,47 +31,13 @@ pub struct Answers {
     pub second: (u32, u64),
 }
 
-// The assumption of A, whose type is the first sort.
-fn assumption(alloc: Global) -> Option<Declaration> {
-    let name = Name::read(alloc, "A").ok()?;
-    let mut proof = Record::new(alloc);
-    fill(&mut proof, 1).ok()?;
-    Some(Declaration {
-        name,
-        body: None,
-        ty: Term::Sort(Sort(0)),
-        proof,
-    })
-}
-
-// What is offered over the front of a core, examined.
-fn examined_over(alloc: Global, core: &Core, declarations: Vec<Declaration>) -> Option<Examined>
-    ensures { IfSome result (λ x. MaySubmit x core.now) }
-{
-    if let Some(_) = first_inner(declarations.as_slice()) {
-        return None;
-    }
-    let Ok(front) = core.context().copy() else {
-        return None;
-    };
-    core.is_legal();
-    let offer = Offer {
-        front,
-        declarations: List::of(declarations),
-        label: None,
-    };
-    match examine(alloc, core.system(), offer) {
-        Ok(examined) => Some(examined),
-        Err(_) => None,
-    }
-}
-
-// The offer of that assumption, examined.
+// The offer of the assumption of A, examined.
 fn examined(alloc: Global, core: &Core) -> Option<Examined>
     ensures { IfSome result (λ x. MaySubmit x core.now) }
 {
     let mut declarations = Vec::new(alloc);
-    declarations.push(assumption(alloc)?).ok()?;
+    let name = Name::read(alloc, "A").ok()?;
+    declarations.push(assumption(alloc, name)?).ok()?;
     examined_over(alloc, core, declarations)
 }
 

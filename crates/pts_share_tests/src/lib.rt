@@ -14,9 +14,11 @@ mod counts;
 mod crossing;
 #[cfg(test)]
 mod full;
+mod offers;
 #[cfg(test)]
 mod pairs;
 #[cfg(test)]
 mod turns;
 
 pub use beside::looked;
+pub use offers::{assumption, examined_over};
