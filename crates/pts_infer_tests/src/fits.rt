@@ -1,75 +1,58 @@
 // Inference, the sort test and the fit of judgements, over the worked record.
 
-use crate::inference::{fit_word, infer_word};
-use pts_ctx::{Context, NameFault, System};
+use crate::outcome::{Outcome, Worked, fit_word, infer_word, laid_out, node_of};
+use pts_ctx::{Context, NameFault};
 use pts_grow::{Judged, add_line};
-use pts_infer::{FitFault, Flaw, FlawKind, InferFault, fit, infer, sort_test};
+use pts_infer::{Flaw, FlawKind, InferFault, fit, infer, sort_test};
 use pts_names::Name;
-use pts_record::{Boxed, Record, Shape};
+use pts_record::{Boxed, Shape};
 use pts_reduce::Meter;
-use pts_samples::simple;
 use pts_terms::{Sort, Term};
-use pts_worked::{assume, begun, front, is_begun, is_typed, judged};
+use pts_worked::{assume, is_begun, is_typed, judged};
 use std::alloc::Global;
 
-// The inference of a term in a context of the record.
-fn inferred(
-    system: &System,
-    front: &Context,
-    record: &mut Record,
-    ctx: usize,
-    names: &[Name],
-    term: usize,
-    meter: &mut Meter,
-) -> Option<Result<usize, InferFault>> {
-    if !is_typed(record, ctx) || term >= record.terms() {
+// What the inference of a term in the empty context of the record comes to, and its node, if there is one.
+fn infer_at(worked: &mut Worked, term: usize, limit: u64) -> Option<(Outcome, Option<usize>)> {
+    if !is_typed(&worked.record, 0) || term >= worked.record.terms() {
         return None;
     }
-    Some(infer(system, front, record, ctx, names, term, meter))
+    let mut meter = Meter::new(limit);
+    let record = &mut worked.record;
+    let answer = infer(
+        &worked.system,
+        &worked.front,
+        record,
+        0,
+        &[],
+        term,
+        &mut meter,
+    );
+    Some((Outcome::of(infer_word(&answer), &meter), node_of(&answer)))
 }
 
 // The node of `let y := a : A in y : let y := a : A in A`, which costs five units.
-fn definition(system: &System, front: &Context, record: &mut Record) -> Option<usize> {
-    let mut meter = Meter::new(5);
-    let node = inferred(system, front, record, 0, &[], 8, &mut meter)?.ok()?;
-    match judged(record, 0, node)? {
+fn definition(worked: &mut Worked) -> Option<usize> {
+    let (outcome, node) = infer_at(worked, 8, 5)?;
+    let node = node?;
+    match judged(&worked.record, 0, node)? {
         Judged {
             subject: 8,
             claim: 9,
             ..
-        } if meter.spent() == 5 => Some(node),
+        } if outcome.units == 5 => Some(node),
         _ => None,
     }
 }
 
 fn is_definition(alloc: Global) -> Option<bool> {
-    let system = simple(alloc)?;
-    let front = front(alloc).ok()?;
-    let mut record = begun(alloc, &system, &front)?;
-    Some(definition(&system, &front, &mut record).is_some())
+    let mut worked = laid_out(alloc)?;
+    Some(definition(&mut worked).is_some())
 }
 
 fn is_spent(alloc: Global) -> Option<bool> {
-    let system = simple(alloc)?;
-    let front = front(alloc).ok()?;
-    let mut record = begun(alloc, &system, &front)?;
-    let mut meter = Meter::new(4);
-    let answer = inferred(&system, &front, &mut record, 0, &[], 8, &mut meter)?;
-    Some(infer_word(&answer) == "spent" && meter.spent() == 4)
-}
-
-// The application of the variable of the context 4, which is called `x`, to itself.
-fn applied(
-    alloc: Global,
-    system: &System,
-    front: &Context,
-    meter: &mut Meter,
-) -> Option<Result<usize, InferFault>> {
-    let mut record = begun(alloc, system, front)?;
-    let mut names = Vec::new(alloc);
-    names.push(Name::read(alloc, "x").ok()?).ok()?;
-    let term = add_line(&mut record, Shape::App(4, 4)).ok()?;
-    inferred(system, front, &mut record, 4, names.as_slice(), term, meter)
+    let mut worked = laid_out(alloc)?;
+    let (outcome, _) = infer_at(&mut worked, 8, 4)?;
+    Some(outcome.is("spent", 4))
 }
 
 fn is_no_function(flaw: &Flaw) -> bool {
@@ -78,14 +61,38 @@ fn is_no_function(flaw: &Flaw) -> bool {
     is_named && is_kind && flaw.place.items() == [0].as_slice()
 }
 
-fn is_refused(alloc: Global) -> Option<bool> {
-    let system = simple(alloc)?;
-    let front = front(alloc).ok()?;
-    let mut meter = Meter::new(9);
-    match applied(alloc, &system, &front, &mut meter)? {
-        Err(InferFault::Flaw(flaw)) => Some(is_no_function(&flaw) && meter.spent() == 2),
-        _ => None,
+fn has_no_function(answer: &Result<usize, InferFault>) -> bool {
+    match answer {
+        Err(InferFault::Flaw(flaw)) => is_no_function(flaw),
+        _ => false,
     }
+}
+
+// The application of the variable of the context 4, which is called `x`, to itself, costs two units and is no term.
+fn misapplied(worked: &mut Worked, names: &[Name]) -> Option<bool> {
+    let term = add_line(&mut worked.record, Shape::App(4, 4)).ok()?;
+    if !is_typed(&worked.record, 4) || term >= worked.record.terms() {
+        return None;
+    }
+    let mut meter = Meter::new(9);
+    let record = &mut worked.record;
+    let answer = infer(
+        &worked.system,
+        &worked.front,
+        record,
+        4,
+        names,
+        term,
+        &mut meter,
+    );
+    Some(has_no_function(&answer) && meter.spent() == 2)
+}
+
+fn is_refused(alloc: Global) -> Option<bool> {
+    let mut names = Vec::new(alloc);
+    names.push(Name::read(alloc, "x").ok()?).ok()?;
+    let mut worked = laid_out(alloc)?;
+    misapplied(&mut worked, names.as_slice())
 }
 
 #[test]
@@ -96,17 +103,14 @@ fn a_term_of_a_record_is_inferred(rt: HostRuntime) {
 }
 
 // The sort test of a judgement in the empty context of the record.
-fn sorted(
-    system: &System,
-    front: &Context,
-    record: &mut Record,
-    node: usize,
-    meter: &mut Meter,
-) -> Option<Result<usize, InferFault>> {
-    if !is_begun(record) || judged(record, 0, node).is_none() {
+fn sort_at(worked: &mut Worked, node: usize, limit: u64) -> Option<Outcome> {
+    if !is_begun(&worked.record) || judged(&worked.record, 0, node).is_none() {
         return None;
     }
-    Some(sort_test(system, front, record, &[], node, meter))
+    let mut meter = Meter::new(limit);
+    let record = &mut worked.record;
+    let answer = sort_test(&worked.system, &worked.front, record, &[], node, &mut meter);
+    Some(Outcome::of(infer_word(&answer), &meter))
 }
 
 // Adds a `B` of the type `let y := a : A in *`.
@@ -121,27 +125,21 @@ fn assume_sorted(front: &mut Context, alloc: Global) -> Result<(), NameFault> {
 
 // What the sort test of the judgement of `B` comes to.
 fn is_sorted(alloc: Global, limit: u64, word: &str) -> Option<bool> {
-    let system = simple(alloc)?;
-    let mut front = front(alloc).ok()?;
-    assume_sorted(&mut front, alloc).ok()?;
-    let mut record = begun(alloc, &system, &front)?;
-    let term = add_line(&mut record, Shape::Const(Name::read(alloc, "B").ok()?)).ok()?;
-    let mut meter = Meter::new(9);
-    let node = inferred(&system, &front, &mut record, 0, &[], term, &mut meter)?.ok()?;
-    let mut meter = Meter::new(limit);
-    let answer = sorted(&system, &front, &mut record, node, &mut meter)?;
-    Some(infer_word(&answer) == word && meter.spent() == limit)
+    let mut worked = laid_out(alloc)?;
+    assume_sorted(&mut worked.front, alloc).ok()?;
+    let shape = Shape::Const(Name::read(alloc, "B").ok()?);
+    let term = add_line(&mut worked.record, shape).ok()?;
+    let (_, node) = infer_at(&mut worked, term, 9)?;
+    let outcome = sort_at(&mut worked, node?, limit)?;
+    Some(outcome.is(word, limit))
 }
 
 // What that of the local definition comes to.
 fn is_unsorted(alloc: Global) -> Option<bool> {
-    let system = simple(alloc)?;
-    let front = front(alloc).ok()?;
-    let mut record = begun(alloc, &system, &front)?;
-    let node = definition(&system, &front, &mut record)?;
-    let mut meter = Meter::new(9);
-    let answer = sorted(&system, &front, &mut record, node, &mut meter)?;
-    Some(infer_word(&answer) == "no sort" && meter.spent() == 1)
+    let mut worked = laid_out(alloc)?;
+    let node = definition(&mut worked)?;
+    let outcome = sort_at(&mut worked, node, 9)?;
+    Some(outcome.is("no sort", 1))
 }
 
 #[test]
@@ -152,29 +150,31 @@ fn a_judgement_is_sorted_at_its_cost(rt: HostRuntime) {
 }
 
 // The fit of a judgement in the empty context of the record to a term of it.
-fn fitted(
-    system: &System,
-    front: &Context,
-    record: &mut Record,
-    node: usize,
-    want: usize,
-    meter: &mut Meter,
-) -> Option<Result<usize, FitFault>> {
-    if !is_begun(record) || judged(record, 0, node).is_none() || want >= record.terms() {
+fn fit_at(worked: &mut Worked, node: usize, want: usize, limit: u64) -> Option<Outcome> {
+    let is_judged = is_begun(&worked.record) && judged(&worked.record, 0, node).is_some();
+    if !is_judged || want >= worked.record.terms() {
         return None;
     }
-    Some(fit(system, front, record, &[], node, want, meter))
+    let mut meter = Meter::new(limit);
+    let record = &mut worked.record;
+    let answer = fit(
+        &worked.system,
+        &worked.front,
+        record,
+        &[],
+        node,
+        want,
+        &mut meter,
+    );
+    Some(Outcome::of(fit_word(&answer), &meter))
 }
 
 // What the fit of the local definition comes to.
 fn is_fitted(alloc: Global, want: usize, limit: u64, word: &str, cost: u64) -> Option<bool> {
-    let system = simple(alloc)?;
-    let front = front(alloc).ok()?;
-    let mut record = begun(alloc, &system, &front)?;
-    let node = definition(&system, &front, &mut record)?;
-    let mut meter = Meter::new(limit);
-    let answer = fitted(&system, &front, &mut record, node, want, &mut meter)?;
-    Some(fit_word(&answer) == word && meter.spent() == cost)
+    let mut worked = laid_out(alloc)?;
+    let node = definition(&mut worked)?;
+    let outcome = fit_at(&mut worked, node, want, limit)?;
+    Some(outcome.is(word, cost))
 }
 
 #[test]

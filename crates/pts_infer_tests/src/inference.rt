@@ -1,32 +1,27 @@
 // Inference over terms that are handed in, here those of the worked record.
 
+use crate::outcome::{Outcome, fit_word, infer_word};
 use pts_ctx::{Context, System};
-use pts_infer::{
-    FitFault, FlawKind, InferFault, Part, Typed, infer_fitted, infer_term, infer_type,
-};
-use pts_record::Record;
+use pts_infer::{InferFault, Part, Typed, infer_fitted, infer_term, infer_type};
 use pts_reduce::Meter;
 use pts_samples::{prints, simple};
 use pts_terms::{Sort, Term};
 use pts_worked::{front, terms};
 use std::alloc::Global;
 
-fn typed(
-    alloc: Global,
-    system: &System,
-    term: &Term,
-    meter: &mut Meter,
-) -> Result<Typed, InferFault> {
-    infer_term(alloc, system, &Context::new(alloc), term, meter)
+fn is_box(answer: &Result<Typed, InferFault>) -> bool {
+    match answer {
+        Ok(typed) => matches!(typed.ty, Term::Sort(Sort(1))),
+        Err(_) => false,
+    }
 }
 
 // The star has the box as its type, for one unit.
 fn stars_are_typed(alloc: Global, system: &System, limit: u64) -> bool {
     let mut meter = Meter::new(limit);
-    match typed(alloc, system, &Term::Sort(Sort(0)), &mut meter) {
-        Ok(typed) => matches!(typed.ty, Term::Sort(Sort(1))) && meter.spent() == 1,
-        Err(_) => false,
-    }
+    let front = Context::new(alloc);
+    let answer = infer_term(alloc, system, &front, &Term::Sort(Sort(0)), &mut meter);
+    is_box(&answer) && meter.spent() == 1
 }
 
 #[test]
@@ -37,60 +32,31 @@ fn sorts_are_typed_by_axioms(rt: HostRuntime) {
     assert!(rt; stars_are_typed(rt.alloc(), &system, 1));
 }
 
-fn flaw_word(kind: &FlawKind) -> &'static str {
-    match kind {
-        FlawKind::NotASort(_) => "no sort",
-        FlawKind::NotProduct(_) => "no product",
-        FlawKind::NoRule(_, _) => "no rule",
-        FlawKind::NoAxiom(_) => "no axiom",
-        FlawKind::NotConvertible { .. } => "another type",
-    }
-}
-
-/// What inference came to, in a word.
-pub fn infer_word<T>(answer: &Result<T, InferFault>) -> &'static str {
-    match answer {
-        Ok(_) => "typed",
-        Err(InferFault::Flaw(flaw)) => flaw_word(&flaw.kind),
-        Err(InferFault::Spent) => "spent",
-        Err(InferFault::Deep) => "deep",
-        Err(InferFault::Memory) => "memory",
-    }
-}
-
-/// What a fit came to, in a word: of a flaw of the wanted type, that it is wanted.
-pub fn fit_word<T>(answer: &Result<T, FitFault>) -> &'static str {
-    match answer {
-        Ok(_) => "typed",
-        Err(FitFault::Wanted(_)) => "wanted",
-        Err(FitFault::Judged(flaw)) => flaw_word(&flaw.kind),
-        Err(FitFault::Spent) => "spent",
-        Err(FitFault::Deep) => "deep",
-        Err(FitFault::Memory) => "memory",
-    }
-}
-
-fn sorted(
-    alloc: Global,
-    system: &System,
-    front: &Context,
-    ty: usize,
-    meter: &mut Meter,
-) -> Option<Result<Record, InferFault>> {
+// A term of the worked record.
+fn term(alloc: Global, place: usize) -> Option<Term> {
     let record = terms(alloc)?;
-    if ty >= record.terms() {
+    if place >= record.terms() {
         return None;
     }
-    let ty = record.tree(ty).ok()?;
-    Some(infer_type(alloc, system, front, &ty, meter))
+    record.tree(place).ok()
+}
+
+// What the inference of a type over a front comes to.
+fn sorted(alloc: Global, system: &System, front: &Context, ty: &Term, limit: u64) -> Outcome {
+    let mut meter = Meter::new(limit);
+    let answer = infer_type(alloc, system, front, ty, &mut meter);
+    Outcome::of(infer_word(&answer), &meter)
+}
+
+fn sort_of(alloc: Global, ty: &Term, limit: u64) -> Option<Outcome> {
+    let system = simple(alloc)?;
+    let front = front(alloc).ok()?;
+    Some(sorted(alloc, &system, &front, ty, limit))
 }
 
 fn is_sorted(alloc: Global, ty: usize, limit: u64, word: &str, cost: u64) -> Option<bool> {
-    let system = simple(alloc)?;
-    let front = front(alloc).ok()?;
-    let mut meter = Meter::new(limit);
-    let answer = sorted(alloc, &system, &front, ty, &mut meter)?;
-    Some(infer_word(&answer) == word && meter.spent() == cost)
+    let ty = term(alloc, ty)?;
+    Some(sort_of(alloc, &ty, limit)?.is(word, cost))
 }
 
 #[test]
@@ -109,28 +75,30 @@ fn a_type_has_a_sort_at_its_cost(rt: HostRuntime) {
     }
 }
 
+// What the fit of a term to a type over a front comes to.
 fn fitted(
     alloc: Global,
     system: &System,
     front: &Context,
-    ty: usize,
-    meter: &mut Meter,
-) -> Option<Result<Record, FitFault>> {
-    let record = terms(alloc)?;
-    if ty >= record.terms() || record.terms() < 10 {
-        return None;
-    }
-    let term = record.tree(8).ok()?;
-    let ty = record.tree(ty).ok()?;
-    Some(infer_fitted(alloc, system, front, &term, &ty, meter))
+    term: &Term,
+    ty: &Term,
+    limit: u64,
+) -> Outcome {
+    let mut meter = Meter::new(limit);
+    let answer = infer_fitted(alloc, system, front, term, ty, &mut meter);
+    Outcome::of(fit_word(&answer), &meter)
+}
+
+fn fit_of(alloc: Global, term: &Term, ty: &Term, limit: u64) -> Option<Outcome> {
+    let system = simple(alloc)?;
+    let front = front(alloc).ok()?;
+    Some(fitted(alloc, &system, &front, term, ty, limit))
 }
 
 fn is_fitted(alloc: Global, ty: usize, limit: u64, word: &str, cost: u64) -> Option<bool> {
-    let system = simple(alloc)?;
-    let front = front(alloc).ok()?;
-    let mut meter = Meter::new(limit);
-    let answer = fitted(alloc, &system, &front, ty, &mut meter)?;
-    Some(fit_word(&answer) == word && meter.spent() == cost)
+    let definition = term(alloc, 8)?;
+    let ty = term(alloc, ty)?;
+    Some(fit_of(alloc, &definition, &ty, limit)?.is(word, cost))
 }
 
 #[test]

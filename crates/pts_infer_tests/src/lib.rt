@@ -14,4 +14,6 @@ mod inference;
 #[cfg(test)]
 mod laws;
 #[cfg(test)]
+mod outcome;
+#[cfg(test)]
 mod reductions;
