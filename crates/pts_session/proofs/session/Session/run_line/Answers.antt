@@ -33,6 +33,15 @@ resume-requires-clause-answer g c =
     c.requires.free (g.P.Port.system c.args.port.now) (replay (g.P.Port.history c.args.port.now)) c.requires.fits
     c.in_ok-answer-in-Ask.answer (replay (g.P.Port.history c.ask_port.new.port)) c.in_ok-answer-in-Ask.ensures.answers).1
 
+pub ask_port-requires-clause-may : goal.ask_port-requires-clause-may
+ask_port-requires-clause-may g c =
+    let S = c.args.world.now.system in
+    let s = c.args.self.now in
+    let t = c.run_local.new.self in
+    ran.may_put S s t c.args.text.now c.in-Ask.request
+    (subst (λ x. ComesTo S s.state c.args.text.now (came_to x t.state)) c.in-Ask.is c.in_ok-lines.ensures.line) c.in_ok-lines.ensures.system (c.in_ok-lines.ensures.awaits ∙ ap awaited_by c.in-Ask.is)
+    c.requires.free (g.P.Port.system c.args.port.now) (replay (g.P.Port.history c.args.port.now)) c.requires.fits
+
 pub returns-in_ok-resume-in-Ask-clause-ran : goal.returns-in_ok-resume-in-Ask-clause-ran
 returns-in_ok-resume-in-Ask-clause-ran g c =
     let S = c.args.world.now.system in
