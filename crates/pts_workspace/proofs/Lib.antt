@@ -1,0 +1,14 @@
+pub mod Dropping
+pub mod Commanded
+pub mod Added
+pub mod Declared
+pub mod Entering
+pub mod Scopes
+pub mod Shown
+pub mod Noted
+pub mod Stepping
+pub mod Unread
+pub mod Longer
+pub mod Opening
+pub mod Ended
+pub mod Hypotheses
