@@ -9,7 +9,7 @@ use std::alloc::{AllocError, Global};
 
 /// What a line of the input asks for.
 #[derive(Drop)]
-pub(crate) enum Asked {
+pub enum Asked {
     /// A line of the session with this number.
     Line(u32, Text),
     /// That the round runs, with these numbers.
@@ -21,7 +21,11 @@ pub(crate) enum Asked {
 }
 
 /// What the line asks for. `go` may be followed by numbers where these are taken.
-pub(crate) fn read_line(alloc: Global, line: &str, numbered: bool) -> Result<Asked, AllocError>
+///
+/// # Errors
+///
+/// Out of memory.
+pub fn read_line(alloc: Global, line: &str, numbered: bool) -> Result<Asked, AllocError>
     ensures { IfOk result (λ a. HasForm numbered line.now (input_of a)) }
 {
     match line.split_once(' ') {

@@ -1,4 +1,6 @@
 pub mod Turned
+pub mod Crossing
 pub mod Joining
 pub mod Rounds
-pub mod Crossing
+pub mod Seating
+pub mod Serving

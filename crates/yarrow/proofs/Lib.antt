@@ -8,3 +8,4 @@ pub mod Texts
 pub mod TwoReads
 pub mod ReplayStart
 pub mod ReplayEnds
+pub mod ServeEnds

@@ -9,3 +9,4 @@ pub mod Batches
 pub mod Replays
 pub mod Plays
 pub mod Commanded
+pub mod Serves
