@@ -16,6 +16,8 @@ mod moving;
 #[cfg(test)]
 mod offering;
 #[cfg(test)]
+mod renaming;
+#[cfg(test)]
 mod stating;
 #[cfg(test)]
 mod words;

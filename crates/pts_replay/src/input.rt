@@ -70,12 +70,8 @@ pub fn play_input<G: Game, S: Source, K: Sink>(
     Ended::NoMemory
 }
 
-/// Prints the lines, which have their line feeds.
-///
-/// # Errors
-///
-/// The sink failed, as its count of faults shows. Then a front part of them was printed.
-pub fn print_lines<K: Sink>(sink: &mut K, lines: &[Text]) -> Result<(), Fail>
+// Prints the lines, which have their line feeds.
+fn print_lines<K: Sink>(sink: &mut K, lines: &[Text]) -> Result<(), Fail>
     ensures faults { OnOk result ((K.state sink.new).faults ≡ (K.state sink.old).faults) }
     ensures written { OnOk result ((K.state sink.new).written ≡ append_known (K.state sink.old).written (joined lines.now)) }
     ensures failed { OnErr result (Rose (K.state sink.old).faults (K.state sink.new).faults) }

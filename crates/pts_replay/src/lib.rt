@@ -10,7 +10,5 @@ mod replay;
 mod reply;
 
 pub use game::Game;
-pub use input::{play_input, print_lines};
-pub use line::{Asked, read_line};
-pub use replay::{Replay, hand_out};
-pub use reply::{Reply, last_of, refusal, reply_of};
+pub use input::play_input;
+pub use replay::Replay;

@@ -9,7 +9,7 @@ use std::alloc::{AllocError, Global};
 
 /// What a line of the input asks for.
 #[derive(Drop)]
-pub enum Asked {
+pub(crate) enum Asked {
     /// A line of the session with this number.
     Line(u32, Text),
     /// That the round runs, with these numbers.
@@ -21,11 +21,7 @@ pub enum Asked {
 }
 
 /// What the line asks for. `go` may be followed by numbers where these are taken.
-///
-/// # Errors
-///
-/// Out of memory.
-pub fn read_line(alloc: Global, line: &str, numbered: bool) -> Result<Asked, AllocError>
+pub(crate) fn read_line(alloc: Global, line: &str, numbered: bool) -> Result<Asked, AllocError>
     ensures { IfOk result (λ a. HasForm numbered line.now (input_of a)) }
 {
     match line.split_once(' ') {

@@ -152,12 +152,8 @@ fn round_of<P: Player>(
     Ok(Round { order, printed })
 }
 
-/// Gives each line to its session, of 64 sessions at clear seats.
-///
-/// # Errors
-///
-/// Out of memory. Then nothing is said of the seats.
-pub fn hand_out<P, Q>(seats: &mut [Seat<P, Q>], lines: Vec<(u32, Text)>) -> Result<(), AllocError>
+// Gives each line to its session.
+fn hand_out<P, Q>(seats: &mut [Seat<P, Q>], lines: Vec<(u32, Text)>) -> Result<(), AllocError>
     requires sessions { length seats.old ≡ 64 }
     requires known { All (λ l. IsSession l.0) lines.items }
     requires clear { AllClear seats.old }

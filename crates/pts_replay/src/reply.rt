@@ -13,11 +13,11 @@ use std::alloc::{AllocError, Global};
 
 /// What is printed for a line of the input, or at its end.
 #[derive(Drop)]
-pub struct Reply {
+pub(crate) struct Reply {
     /// Lines, each with a line feed.
-    pub lines: Vec<Text>,
+    pub(crate) lines: Vec<Text>,
     /// No line is read after this.
-    pub is_last: bool,
+    pub(crate) is_last: bool,
 }
 
 /// Does what the reader of lines answered, and answers what is printed for it, or how the play ends by it.
@@ -99,8 +99,8 @@ fn answer_line<G: Game>(
     }
 }
 
-/// These lines, after which lines are read.
-pub fn reply_of(lines: Vec<Text>) -> Reply
+// These lines, after which lines are read.
+fn reply_of(lines: Vec<Text>) -> Reply
     ensures lines { result.lines.items ≡ lines.items }
     ensures goes_on { result.is_last ≡ false }
 {
@@ -110,8 +110,8 @@ pub fn reply_of(lines: Vec<Text>) -> Reply
     }
 }
 
-/// These lines, after which none is read.
-pub fn last_of(lines: Vec<Text>) -> Reply
+// These lines, after which none is read.
+fn last_of(lines: Vec<Text>) -> Reply
     ensures lines { result.lines.items ≡ lines.items }
     ensures ends { result.is_last ≡ true }
 {
@@ -139,12 +139,8 @@ fn last_round<G: Game>(
     game.run_round(alloc, world, &[])
 }
 
-/// The line that refuses the line of the input with this number.
-///
-/// # Errors
-///
-/// Out of memory.
-pub fn refusal(alloc: Global, number: u64) -> Result<Vec<Text>, AllocError>
+// `refused line K`
+fn refusal(alloc: Global, number: u64) -> Result<Vec<Text>, AllocError>
     ensures { IfOk result (λ lines. lines.items ≡ map full_line (refused_line number ∷ [])) }
 {
     let line = format!(in alloc; "refused line {number}\n")?;

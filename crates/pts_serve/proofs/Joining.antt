@@ -17,8 +17,7 @@ use Rattle.pts_serve.specs.Served.{RanLines, ServedBeside}
 use Rattle.pts_serve.specs.Workers.{IsReady, HasRun, job_with, finish_with, turned}
 use Rattle.pts_serve.specs.declared.worker.SessionWorker.{SessionWorker}
 
--- Events of others are entries of others.
-pub owned_none : (n : ℕ) (h : List Past) → OfOthers n h → NoneOf n (owned h)
+owned_none : (n : ℕ) (h : List Past) → OfOthers n h → NoneOf n (owned h)
 owned_none n [] o = tt
 owned_none n (e ∷ h) o = (o.0, owned_none n h o.1)
 

@@ -4,7 +4,6 @@ use Rattle.std.specs.List.{AllByRecursion}
 use Rattle.std.proofs.lemmas.List.{length-map}
 use Rattle.pts_names.specs.Lists.{In}
 use Rattle.pts_ctx.specs.System.{Specification}
-use Rattle.pts_ctx.specs.Seen.{IsPrefix}
 use Rattle.pts_core.specs.Histories.{Past}
 use Rattle.pts_core.specs.Cores.{SeenCore}
 use Rattle.pts_play.specs.Machines.{Outcome}
@@ -41,6 +40,10 @@ ran_long ran [] (w ∷ ws) r = absurd r
 ran_long ran (v ∷ vs) [] r = absurd r
 ran_long ran (v ∷ vs) (w ∷ ws) r = ap suc (ran_long ran vs ws r.1)
 
+-- What a slice of all of a vector leaves there.
+pub written_back : {X : Type 0} (old new : List X) (n : ℕ) → length new ≡ length old → n ≡ length old → take n (new ++ drop (length new) old) ≡ new
+written_back old new n same all = take_at new (drop (length new) old) n (same ∙ sym all)
+
 -- The passes as they were handed out.
 pub first_passes : (shared : Shared) (core : SeenCore) (ps : List Pass) → core_of shared ≡ core → AllByRecursion (λ p. IsPassOf (table_of shared) core.system p × (history_of p ≡ core.history)) ps → AllByRecursion (IsPassOf (table_of shared) (system_of shared)) ps
 first_passes shared core ps is all = firsts ps (subst (λ c. AllByRecursion (λ p. IsPassOf (table_of shared) c.system p × (history_of p ≡ core.history)) ps) (sym is) all)
@@ -51,10 +54,6 @@ first_passes shared core ps is all = firsts ps (subst (λ c. AllByRecursion (λ 
 
 pub passes_long : {C : Type 0} (ps : List Pass) (ns : List ℕ) (staff : List (Staff C)) → map (λ p. p.owner) ps ≡ ns → ns ≡ map (λ s. s.number) staff → length ps ≡ length staff
 passes_long ps ns staff names numbers = sym (length-map ps (λ p. p.owner)) ∙ (ap length (names ∙ numbers) ∙ length-map staff (λ s. s.number))
-
--- The history begins with the one that was there when the core began to be shared.
-pub begins : (shared : Shared) (core : SeenCore) (k : List Past) → core_of shared ≡ core → AddedTo (sessions_of shared) (core_of shared).history k → IsPrefix core.history k
-begins shared core k is added = subst (λ c. IsPrefix c.history k) is (added.0, added.1)
 
 module _ {W C Request Answer : Type 0} (local : W → C → List ℕ → Outcome C C Request → Type 0) (resumes : W → C → Answer → List (List ℕ) → C → Type 0) (steps : List Past → ℕ → Request → Answer → List Past → Type 0) (fits : W → C → Specification → List Past → Type 0) (shared : Shared) (world : W) (core : SeenCore) (ns : List ℕ) (staff : List (Staff C)) (ps : List Pass) (vs : List (SessionWorker W C))
     (opened : (sessions_of shared ≡ ns) × (core_of shared ≡ core)) (names : map (λ p. p.owner) ps ≡ ns) (all : AllByRecursion (λ p. IsPassOf (table_of shared) core.system p × (history_of p ≡ core.history)) ps) (numbers : ns ≡ map (λ s. s.number) staff)

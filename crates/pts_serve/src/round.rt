@@ -3,7 +3,6 @@
 ghost use Rattle.std.specs.Prelude.{◌≡◌, ◌<◌, ◌≤◌, ◌^◌, ◌++◌, ℕ, List, [], true, IfOk, IfSome, length, map, vec_capacity};
 ghost use Rattle.std.specs.List.{AllByRecursion};
 ghost use Rattle.pts_names.specs.Lists.{AllDiffer};
-ghost use Rattle.pts_ctx.specs.Seen.{IsPrefix};
 ghost use Rattle.pts_serve.specs.Served.{ServedBeside};
 ghost use Rattle.pts_serve.specs.Workers.{finish_of, finish_with, job_of, job_with, turned};
 
@@ -33,8 +32,7 @@ pub struct Served<C> {
 }
 
 /// Each session runs its lines in a thread of its own, where one can be started, over one core. What they do together is a round
-/// of one thread, whose events are those that the core's history has gained, in its order. Where memory runs out for a session,
-/// the core has all events of the round, and its history begins with the one that it had.
+/// of one thread, whose events are those that the core's history has gained, in its order.
 ///
 /// # Errors
 ///
@@ -56,7 +54,6 @@ pub fn serve_round<R: Threads + Wait + Sync, G: Gate + Sync, W: Sync, C: Client<
     ensures fits { IfOk result (λ r. IfSome r.staff (λ after. AllByRecursion (λ s. C.fits world.now s.session core.system r.core.history) after.items)) }
     ensures numbers { IfOk result (λ r. IfSome r.staff (λ after. map (λ s. s.number) after.items ≡ map (λ s. s.number) staff.items)) }
     ensures system { IfOk result (λ r. r.core.system ≡ core.system) }
-    ensures grows { IfOk result (λ r. IsPrefix core.history r.core.history) }
 {
     let count = staff.len();
     let numbers = numbers_of(alloc, staff.as_slice())?;

@@ -8,4 +8,3 @@ pub mod Texts
 pub mod TwoReads
 pub mod ReplayStart
 pub mod ReplayEnds
-pub mod ServeEnds

@@ -5,7 +5,7 @@ use Rattle.pts_names.specs.Name.{Name, same_name, is_identifier, name_fault, Unl
 use Rattle.pts_names.specs.declared.fault.NameFault.{NameFault}
 use Rattle.pts_names.specs.declared.fault.NameFault.TheVariants.{Empty, BadStart, BadPart, TooLong, Memory}
 use Rattle.pts_names.proofs.OnePart.{identifier_is_name}
-use Rattle.yarrow.specs.Commands.{batch, is_module, check_with, format_with, batch_with, replay_with, serve_with, command_of}
+use Rattle.yarrow.specs.Commands.{batch, is_module, check_with, format_with, batch_with, replay_with, command_of}
 
 both : (a b c : Bool) → ((a && b) && c) ≡ true → (a ≡ true) × (c ≡ true)
 both true true c h = (refl, h)
@@ -60,22 +60,15 @@ replay_not ([] ∷ ws) v x h = cc h
 replay_not ((b ∷ bs) ∷ []) v x h = cc h
 replay_not ((b ∷ bs) ∷ (w ∷ ws)) v x h = cc h
 
-serve_not : (ws : List (List ℕ)) (v x : List ℕ) → serve_with ws ≡ Some (batch v x) → ⊥
-serve_not [] v x h = cc h
-serve_not ([] ∷ ws) v x h = cc h
-serve_not ((b ∷ bs) ∷ []) v x h = cc h
-serve_not ((b ∷ bs) ∷ (w ∷ ws)) v x h = cc h
-
 -- After `batch` comes the word of a module.
 pub batch_names_module : (ws : List (List ℕ)) (v x : List ℕ) → command_of ws ≡ Some (batch v x) → is_module x ≡ true
 unfolding command_of
 batch_names_module [] v x h = absurd (cc h)
-batch_names_module (w ∷ ws) v x h = by (same_name w (codes "check")) (same_name w (codes "format")) (same_name w (codes "batch")) (same_name w (codes "replay")) (same_name w (codes "serve")) h
+batch_names_module (w ∷ ws) v x h = by (same_name w (codes "check")) (same_name w (codes "format")) (same_name w (codes "batch")) (same_name w (codes "replay")) h
   where
-    by : (a b c d e : Bool) → (if a then check_with ws else (if b then format_with ws else (if c then batch_with ws else (if d then replay_with ws else (if e then serve_with ws else None))))) ≡ Some (batch v x) → is_module x ≡ true
-    by true b c d e q = absurd (check_not ws v x q)
-    by false true c d e q = absurd (format_not ws v x q)
-    by false false true d e q = behind ws v x q
-    by false false false true e q = absurd (replay_not ws v x q)
-    by false false false false true q = absurd (serve_not ws v x q)
-    by false false false false false q = absurd (cc q)
+    by : (a b c d : Bool) → (if a then check_with ws else (if b then format_with ws else (if c then batch_with ws else (if d then replay_with ws else None)))) ≡ Some (batch v x) → is_module x ≡ true
+    by true b c d q = absurd (check_not ws v x q)
+    by false true c d q = absurd (format_not ws v x q)
+    by false false true d q = behind ws v x q
+    by false false false true q = absurd (replay_not ws v x q)
+    by false false false false q = absurd (cc q)

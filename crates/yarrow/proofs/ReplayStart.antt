@@ -22,7 +22,7 @@ use Rattle.yarrow.specs.Replays.{start}
 use Rattle.yarrow.specs.Plays.{state_in, seen_play, all_new, IsStart}
 
 -- A new session in the system S.
-abbrev pub new_in : Specification → SeenSession
+abbrev new_in : Specification → SeenSession
 new_in S = record { system = S; state = new_session; awaited = None }
 
 pub is_new : (S : Specification) (s : SeenSession) → s.system ≡ S → s.state ≡ new_session → s.awaited ≡ None → s ≡ new_in S
@@ -31,21 +31,21 @@ is_new S s e f g =
     let b : record { system = S; state = s.state; awaited = s.awaited } ≡ record { system = S; state = new_session; awaited = s.awaited } = ap (λ x. record { system = S; state = x; awaited = s.awaited }) f in
     a ∙ (b ∙ ap (λ x. record { system = S; state = new_session; awaited = x }) g)
 
-pub all_of : (P : SeenSession → Type 0) (x : SeenSession) → P x → (n : ℕ) → AllByRecursion P (replicate n x)
+all_of : (P : SeenSession → Type 0) (x : SeenSession) → P x → (n : ℕ) → AllByRecursion P (replicate n x)
 all_of P x p zero = tt
 all_of P x p (suc n) = (p, all_of P x p n)
 
-pub states_of : (S : Specification) (n : ℕ) → map state_in (replicate n (new_in S)) ≡ replicate n new_session
+states_of : (S : Specification) (n : ℕ) → map state_in (replicate n (new_in S)) ≡ replicate n new_session
 states_of S zero = refl
 states_of S (suc n) = ap (λ ss. new_session ∷ ss) (states_of S n)
 
-pub goes_on : (F : LabelledFront) → GoesOn no_entries F
+goes_on : (F : LabelledFront) → GoesOn no_entries F
 goes_on F = record { entries = (F.entries, refl); labels = (F.labels, refl) }
 
 fits : (S T : Specification) (F : LabelledFront) → T ≡ S → FitsTo S (new_in S) T F
 fits S T F e = record { system = refl; core = e; base = goes_on F }
 
-pub same_play : (p : Playing (List Past) State) → p.core ≡ [] → p.sessions ≡ replicate 64 new_session → p.lines ≡ [] → p.orders ≡ [] → p ≡ start
+same_play : (p : Playing (List Past) State) → p.core ≡ [] → p.sessions ≡ replicate 64 new_session → p.lines ≡ [] → p.orders ≡ [] → p ≡ start
 same_play p c s l o =
     let q : Playing (List Past) State = record { core = []; sessions = p.sessions; lines = p.lines; orders = p.orders } in
     let a : p ≡ q = ap (λ x. record { core = x; sessions = p.sessions; lines = p.lines; orders = p.orders }) c in

@@ -3,11 +3,11 @@ use Rattle.std.specs.Prelude.{◌≡◌, ℕ, List, [], Bool, true, false, Optio
 use Rattle.pts_names.specs.Name.{Name}
 use Rattle.pts_ctx.specs.Front.{Global}
 use Rattle.pts_io.specs.States.{SourceState, SinkState, LibraryState}
-use Rattle.yarrow.specs.Commands.{Command, check, format, batch, replay, serve}
+use Rattle.yarrow.specs.Commands.{Command, check, format, batch, replay}
 use Rattle.yarrow.specs.Runs.{TakesNothing, IsCheckRun, IsUsageRun}
 use Rattle.yarrow.specs.Formats.{IsFormatRun}
 use Rattle.yarrow.specs.Batches.{IsBatchRun}
-use Rattle.yarrow.specs.Replays.{IsReplayRun, IsServeRun}
+use Rattle.yarrow.specs.Replays.{IsReplayRun}
 
 -- A run with a command, or with words of no form, that ends with a status, the orders of its rounds, and a context with these
 -- entries and labels: by what its library (l), source (s) and sink (k) show before it and after it.
@@ -22,8 +22,6 @@ IsRun (Some (batch name M)) l l_after s s_after k k_after status orders entries 
     IsBatchRun name M l l_after k k_after status entries labels × TakesNothing s s_after × (orders ≡ [])
 IsRun (Some (replay name)) l l_after s s_after k k_after status orders entries labels =
     IsReplayRun name l l_after s s_after k k_after status orders (record { entries = entries; labels = labels })
-IsRun (Some (serve name)) l l_after s s_after k k_after status orders entries labels =
-    IsServeRun name l l_after s s_after k k_after status orders (record { entries = entries; labels = labels })
 
 -- Whether a command reads files.
 abbrev pub reads_files : Option Command → Bool
@@ -32,4 +30,3 @@ reads_files (Some check) = false
 reads_files (Some (format name)) = true
 reads_files (Some (batch name M)) = true
 reads_files (Some (replay name)) = true
-reads_files (Some (serve name)) = true

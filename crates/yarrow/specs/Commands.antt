@@ -10,7 +10,6 @@ pub data Command : Type 0 where
   format : (specification : List ℕ) → Command
   batch : (specification name : List ℕ) → Command
   replay : (specification : List ℕ) → Command
-  serve : (specification : List ℕ) → Command
 
 -- `check` is alone.
 abbrev pub check_with : List (List ℕ) → Option Command
@@ -36,11 +35,6 @@ abbrev pub replay_with : List (List ℕ) → Option Command
 replay_with ((b ∷ bs) ∷ []) = Some (replay (b ∷ bs))
 replay_with _ = None
 
--- After `serve` comes one word that isn't empty.
-abbrev pub serve_with : List (List ℕ) → Option Command
-serve_with ((b ∷ bs) ∷ []) = Some (serve (b ∷ bs))
-serve_with _ = None
-
 -- The command that words are, if they have a form.
 unfoldable pub command_of : List (List ℕ) → Option Command
 command_of [] = None
@@ -48,8 +42,7 @@ command_of (w ∷ ws) =
     if same_name w (codes "check") then check_with ws
     else (if same_name w (codes "format") then format_with ws
     else (if same_name w (codes "batch") then batch_with ws
-    else (if same_name w (codes "replay") then replay_with ws
-    else (if same_name w (codes "serve") then serve_with ws else None))))
+    else (if same_name w (codes "replay") then replay_with ws else None)))
 
 -- The command that the program understood.
 abbrev pub command_seen : Asked → Command
@@ -57,4 +50,3 @@ command_seen asked.Check = check
 command_seen (asked.Format word) = format word.now
 command_seen (asked.Batch word name) = batch word.now name.now
 command_seen (asked.Replay word) = replay word.now
-command_seen (asked.Serve word) = serve word.now

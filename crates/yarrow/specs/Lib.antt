@@ -9,4 +9,3 @@ pub mod Batches
 pub mod Replays
 pub mod Plays
 pub mod Commanded
-pub mod Serves

@@ -1,5 +1,5 @@
 -- The play of a source, as the code of `replay` goes through it.
-use Rattle.std.specs.Prelude.{◌≡◌, ℕ, ◌≤◌, List, map, length, codes, None, Bool, IfSome}
+use Rattle.std.specs.Prelude.{◌≡◌, ℕ, ◌≤◌, List, map, length, codes, None, true, IfSome}
 use Rattle.std.proofs.Math.ListN.{replicate}
 use Rattle.pts_ctx.specs.System.{Specification}
 use Rattle.pts_io.specs.Counts.{raised}
@@ -18,7 +18,7 @@ use Rattle.pts_session.specs.State.{State, new_session}
 use Rattle.pts_session.specs.Seen.{SeenSession}
 use Rattle.pts_session.specs.Players.{IsFree, FitsTo}
 use Rattle.yarrow.specs.Runs.{PrintsLine}
-use Rattle.yarrow.specs.Replays.{start}
+use Rattle.yarrow.specs.Replays.{Round, start}
 
 -- The core as its history, and a session as its state.
 abbrev pub history_of : CoreTable → List Past
@@ -48,13 +48,13 @@ IsLeft TooMuch q orders h = (orders ≡ q.orders) × (h ≡ q.core)
 IsLeft WriteFailed q orders h = (orders ≡ q.orders) × (h ≡ q.core)
 IsLeft NoMemory q orders h = orders ≡ q.orders
 
--- The play from the start, in which a relation says what a round does, came to this end, with these orders and this history, where
--- the sink was `old` and is then `mid`.
-abbrev pub PlayEnded : (OneRound : Playing (List Past) State → (numbers : List ℕ) → (out : List (List ℕ)) → Playing (List Past) State → Type 0) → (numbered : Bool) → (s t : SourceState) → (old mid : SinkState) → Ended → (orders : List (List ℕ)) → (history : List Past) → Type 0
-PlayEnded OneRound numbered s t old mid e orders h =
+-- The play from the start in the system S came to this end, with these orders and this history, where the sink was `old` and
+-- is then `mid`.
+abbrev pub PlayEnded : Specification → (s t : SourceState) → (old mid : SinkState) → Ended → (orders : List (List ℕ)) → (history : List Past) → Type 0
+PlayEnded S s t old mid e orders h =
     (n : ℕ) × (t.given ≡ raised s.given n) × IsCount 16777216 e n × ((bytes : List ℕ) × (out : List ℕ) × (q : Playing (List Past) State)
     × IfSome s.left (λ all. bytes ≡ all) × (n ≤ length bytes) × Shows e old.written mid.written out
-    × EndPlays OneRound numbered 16777216 e n bytes start out q × IsLeft e q orders h)
+    × EndPlays (Round S) true 16777216 e n bytes start out q × IsLeft e q orders h)
 
 -- What is printed last, and the status.
 abbrev pub EndPrints : Ended → (old new : SinkState) → (status : ℕ) → Type 0

@@ -1,7 +1,7 @@
 // What the words ask for.
 
 ghost use Rattle.std.specs.Prelude.{◌≡◌, Some, None, map, string_bytes, MatchOption};
-ghost use Rattle.yarrow.specs.Commands.{command_of, command_seen, check_with, format_with, batch_with, replay_with, serve_with, is_module};
+ghost use Rattle.yarrow.specs.Commands.{command_of, command_seen, check_with, format_with, batch_with, replay_with, is_module};
 
 use pts_names::is_identifier;
 
@@ -16,8 +16,6 @@ pub(crate) enum Command<'a> {
     Batch(&'a str, &'a str),
     /// `replay SPEC`
     Replay(&'a str),
-    /// `serve SPEC`
-    Serve(&'a str),
 }
 
 /// The command that the words are, or nothing where they have no form.
@@ -35,7 +33,6 @@ pub(crate) fn command_of(words: &[String]) -> Option<Command<'_>>
         "format" => format_with(rest),
         "batch" => batch_with(rest),
         "replay" => replay_with(rest),
-        "serve" => serve_with(rest),
         _ => None,
     }
 }
@@ -82,17 +79,6 @@ fn replay_with(words: &[String]) -> Option<Command<'_>>
 {
     match words {
         [word] if !word.is_empty() => Some(Command::Replay(word.as_str())),
-        _ => None,
-    }
-}
-
-fn serve_with(words: &[String]) -> Option<Command<'_>>
-    ensures { MatchOption result
-        (serve_with (map string_bytes words.now) ≡ None)
-        (λ c. serve_with (map string_bytes words.now) ≡ Some (command_seen c)) }
-{
-    match words {
-        [word] if !word.is_empty() => Some(Command::Serve(word.as_str())),
         _ => None,
     }
 }

@@ -1,5 +1,5 @@
 // The program: `check` reads a certificate from standard input and checks it, `format` reads terms and prints them, `batch`
-// checks the declarations of a module, `replay` plays rounds of sessions that share one context, `serve` plays them in threads.
+// checks the declarations of a module, `replay` plays rounds of sessions that share one context.
 // It writes what the definition of the answer says, and the context that it hands back is legal.
 // Stands on the checker, the readers of certificates, specifications and terms, batches, sessions, and the outside.
 #![tactic(auto)]
@@ -11,11 +11,8 @@ mod batches;
 mod command;
 mod enter;
 mod format;
-#[cfg(test)]
-mod meetings;
 mod replay;
 mod run;
-mod serve;
 mod system;
 #[cfg(test)]
 mod tests;
@@ -23,7 +20,6 @@ mod words;
 
 use crate::run::{Finish, run};
 use pts_io::{FolderLibrary, StdSink, StdSource};
-use pts_rounds::FreeGate;
 use std::env;
 use std::mem::forget;
 use std::process::ExitCode;
@@ -46,13 +42,11 @@ fn main(rt: HostRuntime) -> ExitCode {
         context,
         order,
     } = run(
-        &rt,
         alloc,
         words.as_slice(),
         &mut source,
         &mut sink,
         &mut library,
-        &FreeGate,
     );
     // The process ends here, so nothing is gained by giving memory back piece by piece.
     forget(context);

@@ -1,6 +1,6 @@
 // The command `replay`.
 
-ghost use Rattle.std.specs.Prelude.{◌≡◌, ◌≢◌, IfOk, true};
+ghost use Rattle.std.specs.Prelude.{◌≡◌, ◌≢◌, IfOk};
 ghost use Rattle.pts_ctx.specs.Front.{bare_front};
 ghost use Rattle.pts_rules.specs.Derives.{Legal};
 ghost use Rattle.pts_core.specs.Histories.{replay};
@@ -8,7 +8,7 @@ ghost use Rattle.pts_core.specs.Cores.{labelled};
 ghost use Rattle.pts_io.specs.Counts.{Rose};
 ghost use Rattle.pts_io.specs.declared.ended.Ended.{Ended};
 ghost use Rattle.yarrow.specs.Runs.{Writes};
-ghost use Rattle.yarrow.specs.Replays.{InputPrints, IsReplayRun, Round};
+ghost use Rattle.yarrow.specs.Replays.{InputPrints, IsReplayRun};
 ghost use Rattle.yarrow.specs.Plays.{IsStart, PlayEnded, EndPrints, all_new};
 
 use crate::run::{Finish, LIMIT, ended, printed, without_memory};
@@ -23,7 +23,7 @@ use std::alloc::{AllocError, Global};
 use std::mem::forget;
 
 /// How many sessions there are.
-pub(crate) const SESSIONS: u32 = 64;
+const SESSIONS: u32 = 64;
 
 /// Reads the system that the library's file of this name specifies, and then plays the source line by line: a line of a session
 /// is added to the next round, `go` runs the round, `end` ends the run, and any other line is refused.
@@ -53,7 +53,7 @@ fn replay_source<S: Source, K: Sink>(
     source: &mut S,
     sink: &mut K,
 ) -> Finish
-    ensures prints { Writes (λ status out. InputPrints (Round system) true (S.state source.old) (S.state source.new) status out result.order (labelled result.context))
+    ensures prints { Writes (λ status out. InputPrints system (S.state source.old) (S.state source.new) status out result.order (labelled result.context))
         (K.state sink.old) (K.state sink.new) result.status }
     ensures legal { Legal system (bare_front result.context.entries) }
 {
@@ -105,16 +105,16 @@ fn play_source<S: Source, K: Sink>(
     ensures reads { result ≢ Ended.ReadFailed → (S.state source.new).faults ≡ (S.state source.old).faults }
     ensures write_failed { result ≡ Ended.WriteFailed → Rose (K.state sink.old).faults (K.state sink.new).faults }
     ensures writes { result ≢ Ended.WriteFailed → (K.state sink.new).faults ≡ (K.state sink.old).faults }
-    ensures plays { PlayEnded (Round world.now.system) true (S.state source.old) (S.state source.new) (K.state sink.old) (K.state sink.new)
+    ensures plays { PlayEnded world.now.system (S.state source.old) (S.state source.new) (K.state sink.old) (K.state sink.new)
         result game.new.orders.items game.new.core.core.history }
     ensures system { game.new.core.core.system ≡ world.now.system }
 {
     play_input(alloc, world, game, source, sink, true, LIMIT as u32)
 }
 
-/// The front of the core. The history is as long as the run, and the process ends soon: where a copy of the front can be had,
-/// the core is not given back piece by piece.
-pub(crate) fn front_of(core: CoreTable) -> Context
+// The front of the core. The history is as long as the run, and the process ends soon: where a copy of the front can be had,
+// the core is not given back piece by piece.
+fn front_of(core: CoreTable) -> Context
     ensures front { labelled result ≡ replay core.core.history }
     ensures legal { Legal core.core.system (bare_front result.entries) }
 {
@@ -126,8 +126,8 @@ pub(crate) fn front_of(core: CoreTable) -> Context
     context
 }
 
-/// The end of a run whose play came to this end.
-pub(crate) fn finish<K: Sink>(
+// The end of a run whose play came to this end.
+fn finish<K: Sink>(
     alloc: Global,
     end: Ended,
     context: Context,

@@ -10,14 +10,10 @@ use crate::batch::run_batch;
 use crate::command::{Command, command_of};
 use crate::format::run_format;
 use crate::replay::run_replay;
-use crate::serve::run_serve;
 use pts_ctx::Context;
 use pts_io::{Library, Sink, Source, WholeFault, read_whole, write_whole};
 use pts_names::List;
-use pts_rounds::Gate;
 use std::alloc::Global;
-use std::sync::Wait;
-use std::thread::Threads;
 
 /// How many bytes an input has at most.
 pub const LIMIT: usize = 16_777_216;
@@ -31,18 +27,15 @@ pub struct Finish {
     pub order: List<List<u32>>,
 }
 
-/// Runs the program with the words after its own name. The forms are `check`, `format SPEC`, `batch SPEC MODULE`,
-/// `replay SPEC` and `serve SPEC`, where SPEC is any word that isn't empty and MODULE is a plain name of at most 128 bytes; all
-/// other words print `usage`, with status 2, and take nothing from the source. The sessions of `serve` pass the gate at their
-/// points, whatever it is.
-pub fn run<R: Threads + Wait + Sync, S: Source, K: Sink, L: Library, G: Gate + Sync>(
-    rt: &R,
+/// Runs the program with the words after its own name. The forms are `check`, `format SPEC`, `batch SPEC MODULE` and
+/// `replay SPEC`, where SPEC is any word that isn't empty and MODULE is a plain name of at most 128 bytes; all other words
+/// print `usage`, with status 2, and take nothing from the source.
+pub fn run<S: Source, K: Sink, L: Library>(
     alloc: Global,
     words: &[String],
     source: &mut S,
     sink: &mut K,
     library: &mut L,
-    gate: &G,
 ) -> Finish
     ensures run { IsRun (command_of (map string_bytes words.now))
         (L.state library.old) (L.state library.new) (S.state source.old) (S.state source.new)
@@ -55,7 +48,6 @@ pub fn run<R: Threads + Wait + Sync, S: Source, K: Sink, L: Library, G: Gate + S
         Some(Command::Format(name)) => run_format(alloc, name, source, sink, library),
         Some(Command::Batch(spec, name)) => run_batch(alloc, spec, name, sink, library),
         Some(Command::Replay(name)) => run_replay(alloc, name, source, sink, library),
-        Some(Command::Serve(name)) => run_serve(rt, alloc, name, source, sink, library, gate),
         None => printed(alloc, sink, 2, b"usage\n", Context::new(alloc)),
     }
 }

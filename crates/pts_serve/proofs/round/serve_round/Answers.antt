@@ -4,9 +4,8 @@ use Rattle.std.proofs.lemmas.List.{length-map}
 use Rattle.pts_names.specs.Lists.{In, AllDiffer}
 use Rattle.pts_rounds.specs.Workers.{EachRan}
 use Rattle.pts_serve.specs.Workers.{IsReady, HasRun, finish_with, turned}
-use Rattle.pts_replay.proofs.Handing.{written_back}
 use Rattle.pts_serve.proofs.Turned.{turned_length}
-use Rattle.pts_serve.proofs.Rounds.{ready, back_passes, back_all, back_some, served, fit, same_numbers, ran_long, first_passes, passes_long, begins}
+use Rattle.pts_serve.proofs.Rounds.{ready, back_passes, back_all, back_some, served, fit, same_numbers, ran_long, written_back, first_passes, passes_long}
 use denote.Exit as exit
 use denote.Param.{param}
 use denote.Param.Send.{sendable, param_send, arg_send}
@@ -179,15 +178,6 @@ returns-then-not-ended-clause-system g c = c.close-core-2.ensures.system ∙ ap 
 
 pub returns-in_default-clause-system : goal.returns-in_default-clause-system
 returns-in_default-clause-system g c = c.close-core.ensures.system ∙ ap (λ k. k.system) c.in_ok-shared.ensures.opening.1
-
-pub returns-clause-grows : goal.returns-clause-grows
-returns-clause-grows g c = begins c.in_ok-shared.shared c.args.core c.close-core-2.result.history c.in_ok-shared.ensures.opening.1 c.close-core-2.ensures.added
-
-pub returns-then-not-ended-clause-grows : goal.returns-then-not-ended-clause-grows
-returns-then-not-ended-clause-grows g c = begins c.in_ok-shared.shared c.args.core c.close-core-2.result.history c.in_ok-shared.ensures.opening.1 c.close-core-2.ensures.added
-
-pub returns-in_default-clause-grows : goal.returns-in_default-clause-grows
-returns-in_default-clause-grows g c = begins c.in_ok-shared.shared c.args.core c.close-core.result.history c.in_ok-shared.ensures.opening.1 c.close-core.ensures.added
 
 pub run_round-requires-send-W : goal.run_round-requires-send-W
 run_round-requires-send-W g c κs within = param_send 1 _ (arg_send _ exit.no _ (worker_sent _ (param 2 g.row.W) (param 3 g.row.C) (search (c.type_bounds.sync-W, sendable)) (search (c.type_bounds.send-C, sendable))))
