@@ -16,8 +16,6 @@ mod moving;
 #[cfg(test)]
 mod offering;
 #[cfg(test)]
-mod renaming;
-#[cfg(test)]
 mod stating;
 #[cfg(test)]
 mod words;
